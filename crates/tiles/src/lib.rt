@@ -1,0 +1,5 @@
+//! Tile levels: the board, its positions, the moves of the blank, and the finished position.
+mod level;
+mod position;
+
+pub use level::TileLevel;

@@ -1,0 +1,5 @@
+pub mod Steps
+pub mod Pass
+pub mod Accepting
+pub mod Lines
+pub mod Solving

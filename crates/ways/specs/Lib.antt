@@ -1,0 +1,4 @@
+pub mod Kinds
+pub mod Judging
+pub mod Passing
+pub mod Writing
