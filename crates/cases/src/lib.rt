@@ -3,7 +3,6 @@
 #[cfg(test)]
 mod tests {
     use judgement::judge_texts;
-    use judgement::report;
     use refusals::Refusal;
     use std::test::*;
     use tiles_text::read_level;
@@ -12,281 +11,425 @@ mod tests {
     use tiles_ways::TileWays;
     use ways::write_way;
 
-    // Levels, each with the report on the way of no moves.
-    static LEVELS: [(&str, &str); 75] = [
-        ("(tiles 2 2\n(row 0 3)\n(row 2 1)\n)\n", "(fault 45 2)"),
+    // An answer as two numbers: 0 and a count, or a refusal's number and its line.
+    type Said = (u32, usize);
+
+    fn said(answer: Result<usize, Refusal>) -> Said {
+        match answer {
+            Ok(count) => (0, count),
+            Err(refusal) => (refusal.fault.number(), refusal.line),
+        }
+    }
+
+    fn judged(level: &str, way: &str) -> Said {
+        match judge_texts(level.as_bytes(), way.as_bytes()) {
+            Ok(count) => (0, count as usize),
+            Err(refusal) => said(Err(refusal)),
+        }
+    }
+
+    fn judged_is(level: &str, way: &str, number: u32, line: usize) -> Result<(), Fail> {
+        let (n, l) = judged(level, way);
+        check_eq(n, number).note(level).note(way)?;
+        check_eq(l, line).note(level).note(way)
+    }
+
+    // Levels, each with what is said of the way of no moves.
+    static LEVELS: [(&str, u32, usize); 75] = [
+        ("(tiles 2 2\n(row 0 3)\n(row 2 1)\n)\n", 45, 2),
         (
             "(tiles 3 3\n(row 1 2 3)\n(row 4 5 6)\n(row 7 0 8)\n)\n",
-            "(fault 45 2)",
+            45,
+            2,
         ),
         (
             "(tiles 4 4\n(row 1 2 3 4)\n(row 5 6 7 8)\n(row 9 10 11 12)\n(row 13 14 0 15)\n)\n",
-            "(fault 45 2)",
+            45,
+            2,
         ),
         (
             "(tiles 2 4\n(row 1 2)\n(row 3 4)\n(row 5 6)\n(row 7 0)\n)\n",
-            "(accepted 0)",
+            0,
+            0,
         ),
-        (
-            "(tiles 4 2\n(row 1 2 3 4)\n(row 5 6 7 0)\n)\n",
-            "(accepted 0)",
-        ),
-        ("", "(fault 11 0)"),
-        ("(tiles 2 2\n(row 0 3)\n(row 2 1)\n)", "(fault 11 0)"),
-        ("(tiles 2 2\n(row 0\t3)\n(row 2 1)\n)\n", "(fault 11 0)"),
-        ("(tiles 2 2\n(row 0 \u{7f})\n(row 2 1)\n)\n", "(fault 11 0)"),
-        ("(tiles 2 2\n(row 0 é)\n(row 2 1)\n)\n", "(fault 11 0)"),
-        ("(", "(fault 11 0)"),
-        ("(tiles 2 2\r\n", "(fault 11 0)"),
-        ("\n", "(fault 12 1)"),
-        ("(tile 2 2\n", "(fault 12 1)"),
-        ("(Tiles 2 2\n", "(fault 12 1)"),
-        (" (tiles 2 2\n", "(fault 12 1)"),
-        ("( tiles 2 2\n", "(fault 12 1)"),
-        ("(tiles\n", "(fault 12 1)"),
-        ("(tiles 2\n", "(fault 12 1)"),
-        ("(tiles 2 2)\n", "(fault 12 1)"),
-        ("(tiles  2 2\n", "(fault 12 1)"),
-        ("(tiles 2  2\n", "(fault 12 1)"),
-        ("(tiles 2 2 \n", "(fault 12 1)"),
-        ("(tiles 2 2 2\n", "(fault 12 1)"),
-        ("(tiles 02 2\n", "(fault 12 1)"),
-        ("(tiles 2 00\n", "(fault 12 1)"),
-        ("(tiles 100 2\n", "(fault 12 1)"),
-        ("(tiles 2 -2\n", "(fault 12 1)"),
-        ("(tiles 2 2\n", "(fault 12 2)"),
-        ("(tiles 2 2\n)\n", "(fault 12 2)"),
-        ("(tiles 2 2\n(row)\n", "(fault 12 2)"),
-        ("(tiles 2 2\n(row )\n", "(fault 12 2)"),
-        ("(tiles 2 2\n(rows 0 3)\n", "(fault 12 2)"),
-        ("(tiles 2 2\n(row 0 3\n", "(fault 12 2)"),
-        ("(tiles 2 2\n row 0 3)\n", "(fault 12 2)"),
-        ("(tiles 2 2\n(row 0 (3)\n", "(fault 12 2)"),
-        ("(tiles 2 2\n(row 0 3))\n", "(fault 12 2)"),
-        ("(tiles 2 2\n(row 0 3) \n", "(fault 12 2)"),
-        ("(tiles 2 2\n(row 0 3)\n", "(fault 12 3)"),
-        ("(tiles 2 2\n(row 0 3)\n)\n", "(fault 12 3)"),
-        ("(tiles 2 2\n(row 0 3)\n\n(row 2 1)\n)\n", "(fault 12 3)"),
-        ("(tiles 2 2\n(row 0 3)\n(row 2 1)\n", "(fault 12 4)"),
-        (
-            "(tiles 2 2\n(row 0 3)\n(row 2 1)\n(row 2 1)\n)\n",
-            "(fault 12 4)",
-        ),
-        ("(tiles 2 2\n(row 0 3)\n(row 2 1)\n))\n", "(fault 12 4)"),
-        ("(tiles 2 2\n(row 0 3)\n(row 2 1)\n )\n", "(fault 12 4)"),
-        ("(tiles 2 2\n(row 0 3)\n(row 2 1)\n)\n\n", "(fault 12 5)"),
-        ("(tiles 2 2\n(row 0 3)\n(row 2 1)\n)\n)\n", "(fault 12 5)"),
+        ("(tiles 4 2\n(row 1 2 3 4)\n(row 5 6 7 0)\n)\n", 0, 0),
+        ("", 11, 0),
+        ("(tiles 2 2\n(row 0 3)\n(row 2 1)\n)", 11, 0),
+        ("(tiles 2 2\n(row 0\t3)\n(row 2 1)\n)\n", 11, 0),
+        ("(tiles 2 2\n(row 0 \u{7f})\n(row 2 1)\n)\n", 11, 0),
+        ("(tiles 2 2\n(row 0 é)\n(row 2 1)\n)\n", 11, 0),
+        ("(", 11, 0),
+        ("(tiles 2 2\r\n", 11, 0),
+        ("\n", 12, 1),
+        ("(tile 2 2\n", 12, 1),
+        ("(Tiles 2 2\n", 12, 1),
+        (" (tiles 2 2\n", 12, 1),
+        ("( tiles 2 2\n", 12, 1),
+        ("(tiles\n", 12, 1),
+        ("(tiles 2\n", 12, 1),
+        ("(tiles 2 2)\n", 12, 1),
+        ("(tiles  2 2\n", 12, 1),
+        ("(tiles 2  2\n", 12, 1),
+        ("(tiles 2 2 \n", 12, 1),
+        ("(tiles 2 2 2\n", 12, 1),
+        ("(tiles 02 2\n", 12, 1),
+        ("(tiles 2 00\n", 12, 1),
+        ("(tiles 100 2\n", 12, 1),
+        ("(tiles 2 -2\n", 12, 1),
+        ("(tiles 2 2\n", 12, 2),
+        ("(tiles 2 2\n)\n", 12, 2),
+        ("(tiles 2 2\n(row)\n", 12, 2),
+        ("(tiles 2 2\n(row )\n", 12, 2),
+        ("(tiles 2 2\n(rows 0 3)\n", 12, 2),
+        ("(tiles 2 2\n(row 0 3\n", 12, 2),
+        ("(tiles 2 2\n row 0 3)\n", 12, 2),
+        ("(tiles 2 2\n(row 0 (3)\n", 12, 2),
+        ("(tiles 2 2\n(row 0 3))\n", 12, 2),
+        ("(tiles 2 2\n(row 0 3) \n", 12, 2),
+        ("(tiles 2 2\n(row 0 3)\n", 12, 3),
+        ("(tiles 2 2\n(row 0 3)\n)\n", 12, 3),
+        ("(tiles 2 2\n(row 0 3)\n\n(row 2 1)\n)\n", 12, 3),
+        ("(tiles 2 2\n(row 0 3)\n(row 2 1)\n", 12, 4),
+        ("(tiles 2 2\n(row 0 3)\n(row 2 1)\n(row 2 1)\n)\n", 12, 4),
+        ("(tiles 2 2\n(row 0 3)\n(row 2 1)\n))\n", 12, 4),
+        ("(tiles 2 2\n(row 0 3)\n(row 2 1)\n )\n", 12, 4),
+        ("(tiles 2 2\n(row 0 3)\n(row 2 1)\n)\n\n", 12, 5),
+        ("(tiles 2 2\n(row 0 3)\n(row 2 1)\n)\n)\n", 12, 5),
         (
             "(tiles 2 2\n(row 0 3)\n(row 2 1)\n)\n(tiles 2 2\n(row 0 3)\n(row 2 1)\n)\n",
-            "(fault 12 5)",
+            12,
+            5,
         ),
-        ("(tiles 1 2\n", "(fault 13 1)"),
-        ("(tiles 2 1\n", "(fault 13 1)"),
-        ("(tiles 0 0\n", "(fault 13 1)"),
-        ("(tiles 5 4\n", "(fault 13 1)"),
-        ("(tiles 4 5\n", "(fault 13 1)"),
-        ("(tiles 99 2\n", "(fault 13 1)"),
-        ("(tiles 1 2\n(row x)\n", "(fault 13 1)"),
-        ("(tiles 2 2\n(row 0)\n", "(fault 14 2)"),
-        ("(tiles 2 2\n(row 0 1 2)\n", "(fault 14 2)"),
-        ("(tiles 2 2\n(row  0 3)\n", "(fault 14 2)"),
-        ("(tiles 2 2\n(row 0  3)\n", "(fault 14 2)"),
-        ("(tiles 2 2\n(row 0 3 )\n", "(fault 14 2)"),
-        ("(tiles 2 2\n(row 00 3)\n", "(fault 14 2)"),
-        ("(tiles 2 2\n(row 0 03)\n", "(fault 14 2)"),
-        ("(tiles 2 2\n(row 0 4)\n", "(fault 14 2)"),
-        ("(tiles 2 2\n(row A B)\n", "(fault 14 2)"),
-        ("(tiles 2 2\n(row [ ])\n", "(fault 14 2)"),
-        ("(tiles 2 2\n(row 0 10000000)\n", "(fault 14 2)"),
-        ("(tiles 2 2\n(row 0 18446744073709551617)\n", "(fault 14 2)"),
-        ("(tiles 2 2\n(row 0 3)\n(row 2 4)\n)\n", "(fault 14 3)"),
+        ("(tiles 1 2\n", 13, 1),
+        ("(tiles 2 1\n", 13, 1),
+        ("(tiles 0 0\n", 13, 1),
+        ("(tiles 5 4\n", 13, 1),
+        ("(tiles 4 5\n", 13, 1),
+        ("(tiles 99 2\n", 13, 1),
+        ("(tiles 1 2\n(row x)\n", 13, 1),
+        ("(tiles 2 2\n(row 0)\n", 14, 2),
+        ("(tiles 2 2\n(row 0 1 2)\n", 14, 2),
+        ("(tiles 2 2\n(row  0 3)\n", 14, 2),
+        ("(tiles 2 2\n(row 0  3)\n", 14, 2),
+        ("(tiles 2 2\n(row 0 3 )\n", 14, 2),
+        ("(tiles 2 2\n(row 00 3)\n", 14, 2),
+        ("(tiles 2 2\n(row 0 03)\n", 14, 2),
+        ("(tiles 2 2\n(row 0 4)\n", 14, 2),
+        ("(tiles 2 2\n(row A B)\n", 14, 2),
+        ("(tiles 2 2\n(row [ ])\n", 14, 2),
+        ("(tiles 2 2\n(row 0 10000000)\n", 14, 2),
+        ("(tiles 2 2\n(row 0 18446744073709551617)\n", 14, 2),
+        ("(tiles 2 2\n(row 0 3)\n(row 2 4)\n)\n", 14, 3),
         (
             "(tiles 3 3\n(row 1 2 3)\n(row 4 5 9)\n(row 7 0 8)\n)\n",
-            "(fault 14 3)",
+            14,
+            3,
         ),
         (
             "(tiles 4 4\n(row 1 2 3 4)\n(row 5 6 7 8)\n(row 9 10 11 12)\n(row 13 14 0 16)\n)\n",
-            "(fault 14 5)",
+            14,
+            5,
         ),
-        ("(tiles 2 2\n(row 0 1)\n(row 1 2)\n)\n", "(fault 18 4)"),
-        ("(tiles 2 2\n(row 0 0)\n(row 0 0)\n)\n", "(fault 18 4)"),
+        ("(tiles 2 2\n(row 0 1)\n(row 1 2)\n)\n", 18, 4),
+        ("(tiles 2 2\n(row 0 0)\n(row 0 0)\n)\n", 18, 4),
         (
             "(tiles 3 3\n(row 1 2 3)\n(row 4 5 6)\n(row 7 7 8)\n)\n",
-            "(fault 18 5)",
+            18,
+            5,
         ),
         (
             "(tiles 4 4\n(row 1 2 3 4)\n(row 5 6 7 8)\n(row 9 10 11 12)\n(row 13 14 15 15)\n)\n",
-            "(fault 18 6)",
+            18,
+            6,
         ),
-        ("(tiles 2 2\n(row 0 1)\n(row 1 2)\n)\n)\n", "(fault 12 5)"),
+        ("(tiles 2 2\n(row 0 1)\n(row 1 2)\n)\n)\n", 12, 5),
     ];
 
-    // The level that the ways below are for: the blank has to go six times round the corner.
+    #[test]
+    fn reads_levels() -> Result<(), Fail> {
+        for (level, number, line) in LEVELS.iter() {
+            judged_is(level, "(way 0\n)\n", *number, *line)?;
+        }
+        Ok(())
+    }
+
+    // The level that the ways below are for.
     static RING: &str = "(tiles 2 2\n(row 0 3)\n(row 2 1)\n)\n";
 
-    static WAYS: [(&str, &str); 44] = [
+    static WAYS: [(&str, u32, usize); 44] = [
         (
             "(way 6\n(move right)\n(move down)\n(move left)\n(move up)\n(move right)\n(move down)\n)\n",
-            "(accepted 6)",
+            0,
+            6,
         ),
-        ("", "(fault 41 1)"),
-        ("\n", "(fault 41 1)"),
-        ("(way 6", "(fault 41 1)"),
-        ("(way\n", "(fault 41 1)"),
-        ("(way 06\n", "(fault 41 1)"),
-        ("(way 6)\n", "(fault 41 1)"),
-        ("(way  6\n", "(fault 41 1)"),
-        ("(way 6 \n", "(fault 41 1)"),
-        ("(way 10000000\n)\n", "(fault 41 1)"),
-        ("(way 99999999\n)\n", "(fault 41 1)"),
-        ("(Way 6\n", "(fault 41 1)"),
+        ("", 41, 1),
+        ("\n", 41, 1),
+        ("(way 6", 41, 1),
+        ("(way\n", 41, 1),
+        ("(way 06\n", 41, 1),
+        ("(way 6)\n", 41, 1),
+        ("(way  6\n", 41, 1),
+        ("(way 6 \n", 41, 1),
+        ("(way 10000000\n)\n", 41, 1),
+        ("(way 99999999\n)\n", 41, 1),
+        ("(Way 6\n", 41, 1),
         (
             "(way 5\n(move right)\n(move down)\n(move left)\n(move up)\n(move right)\n(move down)\n)\n",
-            "(fault 41 1)",
+            41,
+            1,
         ),
         (
             "(way 7\n(move right)\n(move down)\n(move left)\n(move up)\n(move right)\n(move down)\n)\n",
-            "(fault 41 1)",
+            41,
+            1,
         ),
         (
             "(way 0\n(move right)\n(move down)\n(move left)\n(move up)\n(move right)\n(move down)\n)\n",
-            "(fault 41 1)",
+            41,
+            1,
         ),
-        ("(way 0\n", "(fault 41 2)"),
-        ("(way 0\n)", "(fault 41 2)"),
-        ("(way 0\n)\n", "(fault 45 2)"),
-        ("(way 1\n)\n", "(fault 41 1)"),
+        ("(way 0\n", 41, 2),
+        ("(way 0\n)", 41, 2),
+        ("(way 0\n)\n", 45, 2),
+        ("(way 1\n)\n", 41, 1),
         (
             "(way 6\n(move right)\n(move down)\n(move left)\n(move up)\n(move right)\n(move down)\n)",
-            "(fault 41 8)",
+            41,
+            8,
         ),
         (
             "(way 6\n(move right)\n(move down)\n(move left)\n(move up)\n(move right)\n(move down)\n",
-            "(fault 41 8)",
+            41,
+            8,
         ),
         (
             "(way 6\n(move right)\n(move down)\n(move left)\n(move up)\n(move right)\n(move down)\n)\n\n",
-            "(fault 41 9)",
+            41,
+            9,
         ),
         (
             "(way 6\n(move right)\n(move down)\n(move left)\n(move up)\n(move right)\n(move down)\n)\n ",
-            "(fault 41 9)",
+            41,
+            9,
         ),
         (
             "(way 6\n(move right)\n(move down)\n(move left)\n(move up)\n(move right)\n(move down)\n)\n)\n",
-            "(fault 41 9)",
+            41,
+            9,
         ),
         (
             "(way 6\n(move Right)\n(move down)\n(move left)\n(move up)\n(move right)\n(move down)\n)\n",
-            "(fault 41 2)",
+            41,
+            2,
         ),
         (
             "(way 6\n(move right)\n(move down)\n(move left )\n(move up)\n(move right)\n(move down)\n)\n",
-            "(fault 41 4)",
+            41,
+            4,
         ),
         (
             "(way 6\n(move right)\n(move down)\n(move  left)\n(move up)\n(move right)\n(move down)\n)\n",
-            "(fault 41 4)",
+            41,
+            4,
         ),
         (
             "(way 6\n(move right)\n(move down)\n(move)\n(move up)\n(move right)\n(move down)\n)\n",
-            "(fault 41 4)",
+            41,
+            4,
         ),
         (
             "(way 6\n(move right)\n(move down)\n(move left\n(move up)\n(move right)\n(move down)\n)\n",
-            "(fault 41 4)",
+            41,
+            4,
         ),
         (
             "(way 6\n(move right)\n(move down)\n(move left right)\n(move up)\n(move right)\n(move down)\n)\n",
-            "(fault 41 4)",
+            41,
+            4,
         ),
         (
             "(way 6\n(move right)\n(move down)\n(move 0 0 left)\n(move up)\n(move right)\n(move down)\n)\n",
-            "(fault 41 4)",
+            41,
+            4,
         ),
         (
             "(way 6\n(move right)\n(move down)\n(move léft)\n(move up)\n(move right)\n(move down)\n)\n",
-            "(fault 41 4)",
+            41,
+            4,
         ),
         (
             "(way 6\n(move right)\n(move down)\n(move left)\n(move up)\n(move right)\n(move down))\n)\n",
-            "(fault 41 7)",
+            41,
+            7,
         ),
         (
             "(way 6\r\n(move right)\r\n(move down)\r\n(move left)\r\n(move up)\r\n(move right)\r\n(move down)\r\n)\r\n",
-            "(fault 41 1)",
+            41,
+            1,
         ),
         (
             "(way 7\n(move up)\n(move right)\n(move down)\n(move left)\n(move up)\n(move right)\n(move down)\n)\n",
-            "(fault 43 2)",
+            43,
+            2,
         ),
         (
             "(way 7\n(move right)\n(move down)\n(move down)\n(move left)\n(move up)\n(move right)\n(move down)\n)\n",
-            "(fault 43 4)",
+            43,
+            4,
         ),
         (
             "(way 6\n(move right)\n(move down)\n(move left)\n(move up)\n(move right)\n(move up)\n)\n",
-            "(fault 43 7)",
+            43,
+            7,
         ),
         (
             "(way 7\n(move right)\n(move down)\n(move left)\n(move up)\n(move right)\n(move down)\n(move up)\n)\n",
-            "(fault 44 8)",
+            44,
+            8,
         ),
         (
             "(way 7\n(move right)\n(move down)\n(move left)\n(move up)\n(move right)\n(move down)\n(move down)\n)\n",
-            "(fault 43 8)",
+            43,
+            8,
         ),
         (
             "(way 8\n(move right)\n(move down)\n(move left)\n(move up)\n(move right)\n(move down)\n(move left)\n(move bad)\n)\n",
-            "(fault 41 9)",
+            41,
+            9,
         ),
         (
             "(way 5\n(move right)\n(move down)\n(move left)\n(move up)\n(move right)\n)\n",
-            "(fault 45 7)",
+            45,
+            7,
         ),
-        ("(way 1\n(move right)\n)\n", "(fault 45 3)"),
+        ("(way 1\n(move right)\n)\n", 45, 3),
         (
             "(way 14\n(move right)\n(move down)\n(move left)\n(move up)\n(move right)\n(move down)\n(move left)\n(move up)\n(move right)\n(move down)\n(move left)\n(move up)\n(move right)\n(move down)\n)\n",
-            "(fault 44 8)",
+            44,
+            8,
         ),
         (
             "(way 12\n(move down)\n(move right)\n(move up)\n(move left)\n(move down)\n(move right)\n(move up)\n(move left)\n(move down)\n(move right)\n(move up)\n(move left)\n)\n",
-            "(fault 44 8)",
+            44,
+            8,
         ),
     ];
 
     // A level that is finished from the start.
     static FINISHED: &str = "(tiles 2 2\n(row 1 2)\n(row 3 0)\n)\n";
 
-    static FINISHED_WAYS: [(&str, &str); 6] = [
-        ("(way 0\n)\n", "(accepted 0)"),
-        ("(way 1\n(move up)\n)\n", "(fault 44 2)"),
-        ("(way 1\n(move down)\n)\n", "(fault 43 2)"),
-        ("(way 2\n(move up)\n(move down)\n)\n", "(fault 44 2)"),
-        ("(way 1\n)\n", "(fault 41 1)"),
-        ("(way 0\n)\n)\n", "(fault 41 3)"),
+    static FINISHED_WAYS: [(&str, u32, usize); 6] = [
+        ("(way 0\n)\n", 0, 0),
+        ("(way 1\n(move up)\n)\n", 44, 2),
+        ("(way 1\n(move down)\n)\n", 43, 2),
+        ("(way 2\n(move up)\n(move down)\n)\n", 44, 2),
+        ("(way 1\n)\n", 41, 1),
+        ("(way 0\n)\n)\n", 41, 3),
     ];
 
-    fn report_is(rt: &LibcRuntime, level: &[u8], way: &[u8], line: &str) -> Result<(), Fail> {
-        let said = report(rt.alloc(), judge_texts(level, way))?;
-        check_eq(said.as_str().trim_end(), line)
-    }
-
     #[test]
-    fn reads_levels(rt: LibcRuntime) -> Result<(), Fail> {
-        for (level, line) in LEVELS.iter() {
-            report_is(&rt, level.as_bytes(), b"(way 0\n)\n", line).note(level)?;
+    fn judges_ways() -> Result<(), Fail> {
+        for (way, number, line) in WAYS.iter() {
+            judged_is(RING, way, *number, *line)?;
+        }
+        for (way, number, line) in FINISHED_WAYS.iter() {
+            judged_is(FINISHED, way, *number, *line)?;
         }
         Ok(())
     }
 
-    #[test]
-    fn judges_ways(rt: LibcRuntime) -> Result<(), Fail> {
-        for (way, line) in WAYS.iter() {
-            report_is(&rt, RING.as_bytes(), way.as_bytes(), line).note(way)?;
+    // How long a buffer the texts below are written to, and what it holds before.
+    const ROOM: usize = 128;
+
+    const UNTOUCHED: u8 = 7;
+
+    // Whether the front of a buffer is this text and the rest is untouched.
+    fn holds(buffer: &[u8; ROOM], text: &[u8]) -> bool {
+        for (i, b) in buffer.iter().enumerate() {
+            let due = if i < text.len() { text[i] } else { UNTOUCHED };
+            if *b != due {
+                return false;
+            }
         }
-        for (way, line) in FINISHED_WAYS.iter() {
-            report_is(&rt, FINISHED.as_bytes(), way.as_bytes(), line).note(way)?;
+        true
+    }
+
+    fn written(level: &str, room: usize, buffer: &mut [u8; ROOM]) -> Said {
+        match read_level(level.as_bytes()) {
+            Ok(level) => said(write_level(&level, &mut buffer[0..room.min(ROOM)])),
+            Err(refusal) => said(Err(refusal)),
+        }
+    }
+
+    // A level that is read is written as it was into just enough room, and not at all into less.
+    fn writes_back(level: &str) -> Result<(), Fail> {
+        let long = level.len();
+        let mut buffer = [UNTOUCHED; ROOM];
+        check(written(level, long, &mut buffer) == (0, long)).note(level)?;
+        check(holds(&buffer, level.as_bytes())).note(level)?;
+        let mut buffer = [UNTOUCHED; ROOM];
+        check(written(level, long.saturating_sub(1), &mut buffer) == (21, 0)).note(level)?;
+        check(holds(&buffer, b"")).note(level)
+    }
+
+    #[test]
+    fn writes_levels() -> Result<(), Fail> {
+        for (level, number, _) in LEVELS.iter() {
+            if *number == 0 || *number == 45 {
+                writes_back(level)?;
+            }
+        }
+        Ok(())
+    }
+
+    // Move numbers for the level RING, the room for their way, what is said, and the text.
+    static MOVES: [([u32; 4], usize, usize, u32, usize, &str); 13] = [
+        ([0, 0, 0, 0], 0, 9, 0, 9, "(way 0\n)\n"),
+        ([0, 0, 0, 0], 0, 8, 21, 0, ""),
+        ([3, 0, 0, 0], 1, 22, 0, 22, "(way 1\n(move right)\n)\n"),
+        ([3, 0, 0, 0], 1, 21, 21, 0, ""),
+        (
+            [3, 1, 2, 0],
+            4,
+            56,
+            0,
+            56,
+            "(way 4\n(move right)\n(move down)\n(move left)\n(move up)\n)\n",
+        ),
+        (
+            [3, 1, 2, 0],
+            4,
+            128,
+            0,
+            56,
+            "(way 4\n(move right)\n(move down)\n(move left)\n(move up)\n)\n",
+        ),
+        ([3, 1, 2, 0], 4, 55, 21, 0, ""),
+        ([0, 0, 0, 0], 1, 128, 43, 2, ""),
+        ([2, 3, 1, 2], 4, 128, 43, 2, ""),
+        ([3, 1, 1, 2], 4, 128, 43, 4, ""),
+        ([3, 1, 2, 2], 4, 0, 43, 5, ""),
+        ([4, 0, 0, 0], 1, 128, 43, 2, ""),
+        ([3, 4294967295, 0, 0], 2, 128, 43, 3, ""),
+    ];
+
+    fn way_written(moves: &[u32], room: usize, buffer: &mut [u8; ROOM]) -> Said {
+        match read_level(RING.as_bytes()) {
+            Ok(level) => said(write_way(&TileKind(level), moves, &mut buffer[0..room.min(ROOM)])),
+            Err(refusal) => said(Err(refusal)),
+        }
+    }
+
+    fn way_is(moves: &[u32], room: usize, said: Said, text: &str) -> Result<(), Fail> {
+        let mut buffer = [UNTOUCHED; ROOM];
+        check(way_written(moves, room, &mut buffer) == said).note(text)?;
+        check(holds(&buffer, text.as_bytes())).note(text)
+    }
+
+    #[test]
+    fn writes_ways() -> Result<(), Fail> {
+        for (moves, count, room, number, line, text) in MOVES.iter() {
+            way_is(&moves[0..(*count).min(4)], *room, (*number, *line), text)?;
         }
         Ok(())
     }

@@ -20,7 +20,8 @@ use Rattle.std.proofs.shelf.Ways.{tells}
 use Rattle.text.specs.Pieces.{Said, opens, closes, word, number, orWord, pieceIn, spell, Keyword}
 use Rattle.forms.specs.Forms.{_then_, afterBlank, numberOnly, wordOnly, openOnly, openIn, numberIn, plainWordIn, wordIn, thisWord, keywordIn, lastOnly, short, countOf, sizeOf, inside, enclosed, argumentsOf, closing, countLine, sizeLine, argumentsLine, Arguments, FormsHold}
 use Rattle.text.proofs.Numbers.{reads-back, own}
-use Rattle.text.proofs.Runs.{never, parts, Fine, piece-splits, Stops, leading-run, leading-front, run-reads, plain-digits}
+use Rattle.text.proofs.Cases.{never, parts}
+use Rattle.text.proofs.Runs.{Fine, piece-splits, Stops, leading-run, leading-front, run-reads, plain-digits}
 
 module _ (n : ℕ) (small : n < 10000000) where
   fits : n < 2 ^ 64
@@ -32,7 +33,7 @@ module _ (n : ℕ) (small : n < 10000000) where
       ∙ ap (λ o. numberOnly (orWord (decimal n) o, rest)) (reads-back n small)
 
 -- where two steps answer, the first did
-first-step : {A B : Type 0} (o : Option A) (f : A → Option B) (b : B) → (o then f) ≡ Some b → (a : A) × (o ≡ Some a) × (f a ≡ Some b)
+pub first-step : {A B : Type 0} (o : Option A) (f : A → Option B) (b : B) → (o then f) ≡ Some b → (a : A) × (o ≡ Some a) × (f a ≡ Some b)
 first-step (Some a) f b e = (a, refl, e)
 first-step None f b e = absurd (never _ e)
 

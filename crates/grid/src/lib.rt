@@ -6,7 +6,7 @@ ghost use Rattle.grid.specs.Grid.{numberOf, directionOf, wordOf, ofWord, neigh
 ghost use Rattle.grid.specs.Grid.{NumberReadsBack, NumbersOne, WordReadsBack, StepsOn};
 
 /// One of the four ways along a row or a column.
-#[derive(Clone, Copy, PartialEq, Eq, Debug)]
+#[derive(Clone, Copy)]
 pub enum Direction {
     Up,
     Down,
@@ -81,7 +81,7 @@ impl Direction {
 }
 
 /// A board's size. Its cells are numbered from 0 in reading order: rows from the top, each from the left.
-#[derive(Clone, Copy, PartialEq, Eq, Debug)]
+#[derive(Clone, Copy)]
 pub struct Grid {
     pub width: u8,
     pub height: u8,

@@ -84,6 +84,22 @@ inked-turn f xs i d {a = a} {c = c} inside before here =
     let text = joined-more f [] (take i xs) (getD xs i d) ∙ ap (joined f) (sym (take-more xs i d inside)) in
     subst (λ t. Inked t a c) text (inked-more before here)
 
+-- from a to b a text was begun, and it is whole once the rest is written too
+abbrev pub Leads : List ℕ → List ℕ → Ink → Ink → Type 0
+Leads whole rest a b = (c : Ink) → Inked rest b c → Inked whole a c
+
+pub leads-start : {whole rest : List ℕ} {a : Ink} → whole ≡ rest → Leads whole rest a a
+leads-start {a = a} e c w = subst (λ t. Inked t a c) (sym e) w
+
+pub leads-more : {whole text rest : List ℕ} {a b c : Ink} → Leads whole (text ++ rest) a b → Inked text b c → Leads whole rest a c
+leads-more leads wrote d w = leads d (inked-more wrote w)
+
+pub leads-as : {whole rest same : List ℕ} {a b : Ink} → rest ≡ same → Leads whole rest a b → Leads whole same a b
+leads-as {whole = whole} {a = a} {b = b} e leads = subst (λ t. Leads whole t a b) e leads
+
+pub leads-end : {whole : List ℕ} {a b : Ink} → Leads whole [] a b → Inked whole a b
+leads-end {b = b} leads = leads b (inked-nil b)
+
 -- a text at the front of a buffer
 pub fresh-fits : {text out : List ℕ} {b : Ink} → Inked text (freshInk out) b → b .over ≡ false → (b .out ≡ written text out) × (b .room ≡ length out - length text)
 fresh-fits {text = text} {out = out} w e =

@@ -103,28 +103,3 @@ fn write_digits(digits: &mut [u8; 10], n: u32) -> usize
     digits[at] = b'0' + rest as u8;
     at
 }
-
-/// Writes `text` at the front of `out`, and answers its length; `None`, and `out` as it was, if it
-/// does not fit.
-pub fn write_text(text: &[u8], out: &mut [u8]) -> Option<usize>
-    ensures after { λ _. ⌜ now (out .exit) ≡ put (now (text .entry)) (now (out .entry)) ⌝ }
-    ensures counts { λ r. ⌜ r ≡ count (now (text .entry)) (now (out .entry)) ⌝ }
-{
-    let long = out.len();
-    let mut measure = Pen::dry(long);
-    compose(text, &mut measure);
-    if measure.is_over() {
-        return None;
-    }
-    let mut pen = Pen::new(out);
-    compose(text, &mut pen);
-    Some(long - pen.room())
-}
-
-/// What `write_text` writes, with either pen.
-fn compose(text: &[u8], pen: &mut Pen)
-    ensures wrote { λ _. ⌜ Inked (now (text .entry)) (ink (now (pen .entry))) (ink (now (pen .exit))) ⌝ }
-    ensures same { λ _. ⌜ name (now (pen .exit) .out) ≡ name (now (pen .entry) .out) ⌝ }
-{
-    pen.put(text);
-}

@@ -21,7 +21,7 @@ use Rattle.std.proofs.shelf.Tests.{and-parts, ltb-true, ltb-false}
 use Rattle.std.proofs.shelf.Ways.{tells}
 use Rattle.text.proofs.Numbers.{own}
 use Rattle.std.proofs.shelf.Sums.{leading-le-length}
-use Rattle.text.proofs.Runs.{never, parts}
+use Rattle.text.proofs.Cases.{never, parts}
 use Rattle.text.specs.declared.line.Line.{Line}
 use Rattle.text.specs.Lines.{textByte, allText, split, before, inLine, OneLine, lineEnd, lineAt, told, bytes, joinLines, Reading, reading, readLines}
 
@@ -132,7 +132,7 @@ module _ (t : List ℕ) (at : ℕ) where
       by false p q = ltb-false (lineEnd t at) (length t) p
 
 -- a text has at least one part
-some-part : (t : List ℕ) → (l : List ℕ) × (ls : List (List ℕ)) × (split t ≡ l ∷ ls)
+pub some-part : (t : List ℕ) → (l : List ℕ) × (ls : List (List ℕ)) × (split t ≡ l ∷ ls)
 some-part [] = ([], [], refl)
 some-part (c ∷ t) = by (eqb c 10) (some-part t)
   where

@@ -18,14 +18,8 @@ use Rattle.std.proofs.shelf.Tests.{and-parts, cases-eq, cond-true, cond-false, 
 use Rattle.std.proofs.shelf.Ways.{tells}
 use Rattle.text.specs.Numbers.{readNumber}
 use Rattle.text.specs.Pieces.{Said, opens, closes, word, number, plain, orWord, ofRun, pieceIn, spell}
+use Rattle.text.proofs.Cases.{never, parts}
 use Rattle.text.proofs.Numbers.{only-that}
-
--- two answers that cannot be one
-pub never : {A : Type 0} (a : A) → None ≡ Some a → ⊥
-never a e = let z : _≡_ {A = ℕ} 0 1 = cc in omega arith
-
-pub parts : {A B : Type 0} (a c : A) (b d : B) → _≡_ {A = Option (A × B)} (Some (a, b)) (Some (c, d)) → (a ≡ c) × (b ≡ d)
-parts {A} {B} a c b d e = let p : _≡_ {A = A × B} (a, b) (c, d) = cc in (ap (λ x. x .0) p, ap (λ x. x .1) p)
 
 -- what a piece that was read can be
 abbrev pub Fine : Said → Type 0

@@ -21,12 +21,13 @@ use Rattle.std.proofs.shelf.Ways.{tells}
 use Rattle.refusals.specs.declared.Refusal.{Refusal}
 use Rattle.text.specs.Pieces.{Keyword}
 use Rattle.forms.specs.Forms.{sizeOf, argumentsOf, isClosing, inside, closing, sizeLine, argumentsLine, Arguments}
+use Rattle.text.proofs.Cases.{clash}
 use Rattle.forms.proofs.Laws.{forms-hold}
 use Rattle.tiles_text.specs.Writing.{spaced, rowLine}
 use Rattle.tiles_text.specs.Reading.{Form, size, row, close, other, rowOr, sizeOr, formOf, Expect, head, rows, last, nothing, side, numbersIn, afterRow, withRow, next, taken}
 use Rattle.tiles_text.specs.Reader.{Sized}
 use Rattle.tiles_text.proofs.Rows.{numbers-only, numbers-all}
-use Rattle.tiles_text.proofs.Texts.{Printed, printed-by, Short, leading-all}
+use Rattle.text.proofs.Texts.{Printed, printed-by, Short, leading-all}
 
 -- the keywords
 tiles-word : Keyword (codes "tiles")
@@ -169,10 +170,6 @@ close-only l e = sameBytes-decides l closing .0 (by (sizeOf (codes "tiles") l) (
     by None None true e = refl
     by None None false e = absurd (let z : _≡_ {A = ℕ} 0 1 = cc in omega arith)
 
--- what is refused is not taken
-pub refused : {A : Type 0} (a : A) (r : Refusal) → Err r ≡ Ok a → ⊥
-refused a r e = let z : _≡_ {A = ℕ} 0 1 = cc in omega arith
-
 sides : (w h : ℕ) → side w && side h ≡ true → Sized w h
 sides w h e = record { wide = (grind (arith, tells), grind (arith, tells)); high = (grind (arith, tells), grind (arith, tells)) }
 
@@ -188,13 +185,13 @@ took-head n l f e = by (formOf l) refl e
   where
     fits : (w h : ℕ) (r : Refusal) (b : Bool) → side w && side h ≡ b → formOf l ≡ size w h → cond b (Ok (rows w h h [])) (Err r) ≡ Ok f → TookHead l f
     fits w h r true s p q = let same : f ≡ rows w h h [] = cc in record { w = w; h = h; sized = sides w h s; line = size-only l w h p; then = same }
-    fits w h r false s p q = absurd (refused _ _ q)
+    fits w h r false s p q = absurd (clash _ _ q)
 
     by : (x : Form) → formOf l ≡ x → next n head x ≡ Ok f → TookHead l f
     by (size w h) p q = fits w h _ (side w && side h) refl p q
-    by (row xs) p q = absurd (refused _ _ q)
-    by close p q = absurd (refused _ _ q)
-    by other p q = absurd (refused _ _ q)
+    by (row xs) p q = absurd (clash _ _ q)
+    by close p q = absurd (clash _ _ q)
+    by other p q = absurd (clash _ _ q)
 
 pub record TookRow (w h left : ℕ) (ts l : List ℕ) (f : Expect) : Type 0 where
   pub ns : List ℕ
@@ -218,19 +215,19 @@ module _ (w h n : ℕ) (ts l : List ℕ) (f : Expect) where
             line = row-only l xs p ∙ ap (argumentsLine (codes "row")) (spelled .text);
             then = same;
           }
-      fits xs None s p q = absurd (refused _ _ q)
+      fits xs None s p q = absurd (clash _ _ q)
 
       by : (x : Form) → formOf l ≡ x → next n (rows w h left ts) x ≡ Ok f → TookRow w h left ts l f
-      by (size v g) p q = absurd (refused _ _ q)
+      by (size v g) p q = absurd (clash _ _ q)
       by (row xs) p q = fits xs (numbersIn (w * h) w xs) refl p q
-      by close p q = absurd (refused _ _ q)
-      by other p q = absurd (refused _ _ q)
+      by close p q = absurd (clash _ _ q)
+      by other p q = absurd (clash _ _ q)
 
   pub took-close : taken (last w h ts) n l ≡ Ok f → (l ≡ closing) × (f ≡ nothing w h ts)
   took-close e = by (formOf l) refl e
     where
       by : (x : Form) → formOf l ≡ x → next n (last w h ts) x ≡ Ok f → (l ≡ closing) × (f ≡ nothing w h ts)
-      by (size v g) p q = absurd (refused _ _ q)
-      by (row xs) p q = absurd (refused _ _ q)
+      by (size v g) p q = absurd (clash _ _ q)
+      by (row xs) p q = absurd (clash _ _ q)
       by close p q = let same : f ≡ nothing w h ts = cc in (close-only l p, same)
-      by other p q = absurd (refused _ _ q)
+      by other p q = absurd (clash _ _ q)

@@ -1,5 +1,5 @@
 -- A level's text written part by part. Assumes nothing.
-use mathlib.Core.Path.{_≡_, refl, sym, ap, subst, _∙_}
+use mathlib.Core.Path.{_≡_, refl, sym, ap, _∙_}
 use mathlib.Core.Bool.{Bool, true, false, cond}
 use mathlib.Core.List.{List, [], _∷_, _++_, append-assoc}
 use Prim.Native.Nat.{ℕ, zero, suc, _+_, _-_, _*_, _/_, _%_, _<_, _≤_}
@@ -14,8 +14,7 @@ use Rattle.std.specs.declared.option.Option.{Option}
 use Rattle.std.specs.declared.option.Option.the-variants.{Some, None}
 use Rattle.std.specs.declared.result.Result.{Result}
 use Rattle.std.specs.declared.result.Result.the-variants.{Ok, Err}
-use Rattle.pen.specs.Ink.{Ink, Inked, count}
-use Rattle.pen.proofs.Ink.{inked-nil, inked-more}
+use Rattle.pen.specs.Ink.{count}
 use Rattle.refusals.specs.declared.Fault.the-variants.{NoRoom}
 use Rattle.refusals.specs.declared.Refusal.{Refusal}
 use Rattle.refusals.specs.Refusals.{refusal}
@@ -25,22 +24,6 @@ use Rattle.tiles.specs.Board.{unpacked}
 use Rattle.tiles.specs.Level.{Tiles, tilesOf}
 use Rattle.tiles.proofs.Board.{take-unpacked}
 use Rattle.tiles_text.specs.Writing.{spaced, rowLine, rowLines, levelText, writes, past}
-
--- from a to b a text was begun, and it is whole once the rest is written too
-abbrev pub Leads : List ℕ → List ℕ → Ink → Ink → Type 0
-Leads whole rest a b = (c : Ink) → Inked rest b c → Inked whole a c
-
-pub leads-start : {whole rest : List ℕ} {a : Ink} → whole ≡ rest → Leads whole rest a a
-leads-start {a = a} e c w = subst (λ t. Inked t a c) (sym e) w
-
-pub leads-more : {whole text rest : List ℕ} {a b c : Ink} → Leads whole (text ++ rest) a b → Inked text b c → Leads whole rest a c
-leads-more leads wrote d w = leads d (inked-more wrote w)
-
-pub leads-as : {whole rest same : List ℕ} {a b : Ink} → rest ≡ same → Leads whole rest a b → Leads whole same a b
-leads-as {whole = whole} {a = a} {b = b} e leads = subst (λ t. Leads whole t a b) e leads
-
-pub leads-end : {whole : List ℕ} {a b : Ink} → Leads whole [] a b → Inked whole a b
-leads-end {b = b} leads = leads b (inked-nil b)
 
 -- nothing is left of n after n or more
 past-all : (n i : ℕ) → n ≤ i → n - i ≡ 0

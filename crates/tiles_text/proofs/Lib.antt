@@ -4,6 +4,5 @@ pub mod Judging
 pub mod Taking
 pub mod Looping
 pub mod Inking
-pub mod Texts
 pub mod Forms
 pub mod RoundTrip

@@ -24,9 +24,10 @@ use Rattle.tiles.proofs.Board.{Small, few-cells, length-unpacked, packed-lt, pa
 use Rattle.tiles_text.specs.Reading.{Expect, head, rows, last, nothing, taken, eachOnce, level, finished, readLevel, afterRow, ReadsExactly}
 use Rattle.tiles_text.specs.Reader.{Sized}
 use Rattle.tiles_text.specs.Writing.{rowLine, rowLines, levelText}
-use Rattle.tiles_text.proofs.Forms.{headLine, refused, took-head, TookRow, took-row, took-close, takes-head, takes-row, takes-close, short-head, short-row, short-close}
+use Rattle.text.proofs.Cases.{clash}
+use Rattle.tiles_text.proofs.Forms.{headLine, took-head, TookRow, took-row, took-close, takes-head, takes-row, takes-close, short-head, short-row, short-close}
 use Rattle.tiles_text.proofs.Judging.{valid-decides, all-below}
-use Rattle.tiles_text.proofs.Texts.{Short, one-line, is-text, text-cut}
+use Rattle.text.proofs.Texts.{Short, one-line, is-text, text-cut}
 
 -- what all these lines make of a reader
 abbrev ends : Expect → ℕ → List (List ℕ) → Result Tiles Refusal
@@ -55,7 +56,7 @@ took e n l ls t is = by (taken e n l) refl (sym (ends-more e n l ls) ∙ is)
   where
     by : (o : Result Expect Refusal) → taken e n l ≡ o → after n ls o ≡ Ok t → Took e n l ls t
     by (Ok f) p q = record { state = f; first = p; rest = q }
-    by (Err r) p q = absurd (refused _ _ q)
+    by (Err r) p q = absurd (clash _ _ q)
 
 -- the level that the tiles make
 record Makes (w h : ℕ) (ts : List ℕ) (t : Tiles) : Type 0 where
@@ -67,11 +68,11 @@ only-nothing w h n ts [] t is = (refl, by _ (eachOnce (w * h) ts) refl is)
   where
     by : (r : Refusal) (b : Bool) → eachOnce (w * h) ts ≡ b → cond b (Ok (level w h ts)) (Err r) ≡ Ok t → Makes w h ts t
     by r true p q = let same : t ≡ level w h ts = cc in record { once = p; is = same }
-    by r false p q = absurd (refused _ _ q)
-only-nothing w h n ts (l ∷ ls) t is = absurd (refused _ _ (took (nothing w h ts) n l ls t is .first))
+    by r false p q = absurd (clash _ _ q)
+only-nothing w h n ts (l ∷ ls) t is = absurd (clash _ _ (took (nothing w h ts) n l ls t is .first))
 
 only-last : (w h n : ℕ) (ts : List ℕ) (ls : List (List ℕ)) (t : Tiles) → ends (last w h ts) n ls ≡ Ok t → (ls ≡ closing ∷ []) × Makes w h ts t
-only-last w h n ts [] t is = absurd (refused _ _ is)
+only-last w h n ts [] t is = absurd (clash _ _ is)
 only-last w h n ts (l ∷ ls) t is =
     let first = took (last w h ts) n l ls t is in
     let close = took-close w h n ts l (first .state) (first .first) in
@@ -112,7 +113,7 @@ rows-more w h left ts l ls t f row rest =
     }
 
 only-rows : (left w h n : ℕ) (ts : List ℕ) (ls : List (List ℕ)) (t : Tiles) → ends (rows w h (suc left) ts) n ls ≡ Ok t → Rows w h (suc left) ts ls t
-only-rows left w h n ts [] t is = absurd (refused _ _ is)
+only-rows left w h n ts [] t is = absurd (clash _ _ is)
 only-rows zero w h n ts (l ∷ ls) t is =
     let first = took (rows w h 1 ts) n l ls t is in
     let row = took-row w h n ts l (first .state) 1 (first .first) in
@@ -147,7 +148,7 @@ record Read (ls : List (List ℕ)) (t : Tiles) : Type 0 where
   is : t ≡ level w h us
 
 only-head : (n : ℕ) (ls : List (List ℕ)) (t : Tiles) → ends head n ls ≡ Ok t → Read ls t
-only-head n [] t is = absurd (refused _ _ is)
+only-head n [] t is = absurd (clash _ _ is)
 only-head n (l ∷ ls) t is =
     let first = took head n l ls t is in
     let start = took-head n l (first .state) (first .first) in
@@ -189,7 +190,7 @@ text-read t l is = by _ (isText t) is
   where
     by : (r : Refusal) (b : Bool) → cond b (finished (readLines taken head 1 (split t))) (Err r) ≡ Ok l → (b ≡ true) × (finished (readLines taken head 1 (split t)) ≡ Ok l)
     by r true q = (refl, q)
-    by r false q = absurd (refused _ _ q)
+    by r false q = absurd (clash _ _ q)
 
 read-only : (t : List ℕ) (l : Tiles) → readLevel t ≡ Ok l → Valid l × (t ≡ levelText l)
 read-only t l is =

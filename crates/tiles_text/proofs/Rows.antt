@@ -13,15 +13,11 @@ use Rattle.std.specs.declared.option.Option.the-variants.{Some, None}
 use Rattle.std.proofs.shelf.Lists.{nil-from-length}
 use Rattle.std.proofs.shelf.Tests.{cond-true, lt-ltb, ltb-true, eqb-true}
 use Rattle.forms.specs.Forms.{_then_, numberIn}
-use Rattle.text.proofs.Runs.{never, Stops}
-use Rattle.forms.proofs.Laws.{number-only, number-reads}
+use Rattle.text.proofs.Cases.{never}
+use Rattle.text.proofs.Runs.{Stops}
+use Rattle.forms.proofs.Laws.{first-step, number-only, number-reads}
 use Rattle.tiles_text.specs.Reading.{numbersIn}
 use Rattle.tiles_text.specs.Writing.{spaced}
-
--- where two steps answer, the first did
-first-step : {A B : Type 0} (o : Option A) (f : A → Option B) (b : B) → (o then f) ≡ Some b → (a : A) × (o ≡ Some a) × (f a ≡ Some b)
-first-step (Some a) f b e = (a, refl, e)
-first-step None f b e = absurd (never b e)
 
 -- where a test lets an answer through, it holds
 tested : {A : Type 0} (t : Bool) (o : Option A) (a : A) → cond t o None ≡ Some a → (t ≡ true) × (o ≡ Some a)

@@ -9,14 +9,14 @@ use Rattle.std.specs.declared.option.Option.the-variants.{Some, None}
 use Rattle.std.specs.declared.result.Result.the-variants.{Ok}
 use Rattle.std.proofs.shelf.Elements.{all-weaker}
 use Rattle.std.proofs.shelf.Tests.{cond-true, cond-false, eq-eqb, ne-eqb}
-use Rattle.text.proofs.Runs.{never}
+use Rattle.text.proofs.Cases.{never}
 use Rattle.tiles.specs.Board.{packed, unpacked}
 use Rattle.tiles.specs.Level.{packedTo}
 use Rattle.tiles.proofs.Board.{Small, few-cells}
 use Rattle.tiles_text.specs.declared.reader.Expected.{Expected}
 use Rattle.tiles_text.specs.declared.reader.Expected.the-variants.{Rows, Close}
 use Rattle.tiles_text.specs.declared.reader.Reader.{Reader}
-use Rattle.tiles_text.specs.Reading.{rows, row, formOf, numbersIn, afterRow, withRow, next, taken}
+use Rattle.tiles_text.specs.Reading.{row, formOf, numbersIn, afterRow, withRow, next, taken}
 use Rattle.tiles_text.specs.Reader.{Begun, Sound, SoundAt, expects, view}
 use Rattle.tiles_text.proofs.Packing.{Added, added}
 use Rattle.tiles_text.proofs.Rows.{numbers-only}

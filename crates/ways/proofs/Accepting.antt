@@ -19,11 +19,12 @@ use Rattle.refusals.specs.Refusals.{refusal}
 use Rattle.text.specs.Lines.{split}
 use Rattle.text.specs.Pieces.{Keyword}
 use Rattle.forms.specs.Forms.{countOf, countLine, closing, isClosing}
-use Rattle.text.proofs.Runs.{never}
+use Rattle.text.proofs.Cases.{never}
 use Rattle.forms.proofs.Laws.{forms-hold}
 use Rattle.ways.specs.Kinds.{Notation, Lawful}
 use Rattle.ways.specs.Judging.{way, endsAt, withMove, movesFrom, followed, followAll, counted, judgedAs, judgedParts, judged, Follows, ends, goes, Accepted, AcceptsExactly}
-use Rattle.ways.proofs.Steps.{clash, followed-legal}
+use Rattle.text.proofs.Cases.{clash}
+use Rattle.ways.proofs.Steps.{followed-legal}
 
 pub way-word : Keyword way
 way-word = record { some = lit< tt; plainly = refl; unlike = refl }

@@ -19,11 +19,12 @@ use Rattle.refusals.specs.declared.Refusal.{Refusal}
 use Rattle.refusals.specs.Refusals.{refusal}
 use Rattle.forms.specs.Forms.{countLine, closing}
 use Rattle.text.specs.Lines.{joinLines}
-use Rattle.text.proofs.Runs.{never}
+use Rattle.text.proofs.Cases.{never}
 use Rattle.ways.specs.Kinds.{Notation}
 use Rattle.ways.specs.Judging.{way}
 use Rattle.ways.specs.Writing.{opened, playedFrom, checkedAs, checked, Playable, moveLines, wayText, fits, writtenAs, written, laidAs, laid}
-use Rattle.ways.proofs.Steps.{clash, reached-more}
+use Rattle.text.proofs.Cases.{clash}
+use Rattle.ways.proofs.Steps.{reached-more}
 
 -- what `play` answered, read back
 pub played-open : {P : Type 0} (o : Option P) (old new : P) → Played o true old new → o ≡ Some new

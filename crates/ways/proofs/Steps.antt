@@ -11,15 +11,13 @@ use Rattle.std.specs.declared.result.Result.the-variants.{Ok, Err}
 use Rattle.puzzle.specs.Game.{Game, Plays, Reached, here, then}
 use Rattle.refusals.specs.declared.Refusal.{Refusal}
 use Rattle.forms.specs.Forms.{countOf, isClosing}
+use Rattle.text.proofs.Cases.{clash}
 use Rattle.ways.specs.declared.judging.Stage.{Stage}
 use Rattle.ways.specs.declared.judging.Stage.the-variants.{Head, Moves, Closed}
 use Rattle.ways.specs.declared.judging.Progress.{Progress}
 use Rattle.ways.specs.Kinds.{Notation, Lawful}
 use Rattle.ways.specs.Judging.{way, followed}
 use Rattle.ways.specs.Passing.{progress, moved, takenAt, taken}
-
-pub clash : {A B : Type 0} (a : A) (b : B) → Err b ≡ Ok a → ⊥
-clash a b e = let z : _≡_ {A = ℕ} 0 1 = cc in omega arith
 
 module _ {P : Type 0} (g : Game P) where
   one-more : (p q r : P) (ms : List ℕ) (m : ℕ) → Plays g p ms q → m < g .count → g .move q m ≡ Some r → Plays g p (ms ++ m ∷ []) r

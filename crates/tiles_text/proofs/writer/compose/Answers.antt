@@ -4,7 +4,8 @@ use Rattle.pen.specs.Ink.{ink, Inked}
 use Rattle.grid.specs.declared.Grid.{Grid}
 use Rattle.tiles.specs.Level.{tilesOf, tiles}
 use Rattle.tiles_text.specs.Writing.{levelText}
-use Rattle.tiles_text.proofs.Inking.{leads-start, leads-more, leads-as, rowsText, rows-more, rows-all, head-text}
+use Rattle.pen.proofs.Ink.{leads-start, leads-more, leads-as}
+use Rattle.tiles_text.proofs.Inking.{rowsText, rows-more, rows-all, head-text}
 use Rattle.tiles_text.proofs.writer.compose.Needs as need
 
 pub loop-holds : need.loop-holds

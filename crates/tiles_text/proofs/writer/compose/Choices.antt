@@ -2,7 +2,8 @@ use mathlib.Core.Path.{_≡_}
 use denote.Ref.{name}
 use Prim.Native.Nat.{_-_}
 use Rattle.pen.specs.Ink.{ink}
-use Rattle.tiles_text.proofs.Inking.{Leads, rowsText}
+use Rattle.pen.proofs.Ink.{Leads}
+use Rattle.tiles_text.proofs.Inking.{rowsText}
 use Rattle.tiles_text.proofs.writer.compose.Given as given
 
 abbrev pub Inv-loop : given.InvT-loop

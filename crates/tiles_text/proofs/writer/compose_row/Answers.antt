@@ -2,7 +2,8 @@ use mathlib.Core.Path.{refl, sym, subst, _∙_}
 use native.Mathlib.Numerals.{unary-clauses}
 use Rattle.pen.specs.Ink.{ink, Inked}
 use Rattle.pen.proofs.Ink.{inked-more}
-use Rattle.tiles_text.proofs.Inking.{leads-more, leads-as, leads-end, spaced-more, spaced-all, past-more, past-end, row-text}
+use Rattle.pen.proofs.Ink.{leads-more, leads-as, leads-end}
+use Rattle.tiles_text.proofs.Inking.{spaced-more, spaced-all, past-more, past-end, row-text}
 use Rattle.tiles_text.proofs.writer.compose_row.Needs as need
 
 pub loop-holds : need.loop-holds

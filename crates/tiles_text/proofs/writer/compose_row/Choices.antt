@@ -4,7 +4,7 @@ use Prim.Native.Nat.{_-_}
 use Rattle.pen.specs.Ink.{ink}
 use Rattle.tiles.specs.Board.{unpacked}
 use Rattle.tiles_text.specs.Writing.{spaced, past}
-use Rattle.tiles_text.proofs.Inking.{Leads}
+use Rattle.pen.proofs.Ink.{Leads}
 use Rattle.tiles_text.proofs.writer.compose_row.Given as given
 
 abbrev pub Inv-loop : given.InvT-loop

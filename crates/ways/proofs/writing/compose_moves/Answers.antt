@@ -9,7 +9,7 @@ use Rattle.pen.proofs.Ink.{inked-nil, inked-more}
 use Rattle.puzzle.specs.Game.{Reached, here}
 use Rattle.text.specs.Lines.{joinLines}
 use Rattle.ways.specs.Writing.{checkedAs, playedFrom, opened, moveLines}
-use Rattle.ways.proofs.Steps.{clash}
+use Rattle.text.proofs.Cases.{clash}
 use Rattle.ways.proofs.Lines.{played-open, played-closed, opened-open, opened-reached, played-more, lines-more, line-more}
 use Rattle.ways.proofs.writing.compose_moves.Needs as need
 

@@ -2,7 +2,6 @@
 use mathlib.Core.Path.{_≡_, refl, sym, ap, _∙_}
 use mathlib.Core.Bool.{Bool, true, false, cond, _&&_}
 use mathlib.Core.List.{List, [], _∷_, _++_, append-assoc}
-use mathlib.Core.Logic.{⊎-elim}
 use Prim.Native.Nat.{ℕ, suc, _+_, _-_, _*_, _≤_, _<_}
 use native.Mathlib.Omega.{arith}
 use lib.Dec.{eqb, leb, ltb}
@@ -10,10 +9,10 @@ use lib.ListN.{length, getD, take, drop}
 use Rattle.std.specs.shelf.Lists.{leading, All}
 use Rattle.std.proofs.shelf.Elements.{all-weaker}
 use Rattle.std.proofs.shelf.Lists.{length-append, length-push, getD-at, take-append-drop, drop-more, drop-all}
-use Rattle.std.proofs.shelf.Tests.{cond-true, and-from, and-parts, cases-lt, ltb-true, eqb-true}
+use Rattle.std.proofs.shelf.Tests.{cond-true, and-from, and-parts, ltb-true, eqb-true}
 use Rattle.std.proofs.shelf.Ways.{tells}
-use Rattle.text.specs.Lines.{textByte, allText, isText, before, split, joinLines, inLine, OneLine, lineEnd}
-use Rattle.text.proofs.Lines.{split-at, split-end}
+use Rattle.text.specs.Lines.{textByte, allText, isText, before, split, joinLines, inLine, OneLine}
+use Rattle.text.proofs.Lines.{some-part}
 
 -- a byte that may stand in a line
 abbrev pub Printed : ℕ → Type 0
@@ -34,7 +33,7 @@ printed-by (b ∷ l) is = let both = and-parts (leb 32 b && leb b 126) _ is in (
 -- a line of such bytes that is not too long
 pub record Short (l : List ℕ) : Type 0 where
   pub printed : All Printed l
-  pub short : length l ≤ 20
+  pub short : length l ≤ 24
 
 pub leading-all : (p : ℕ → Bool) (l : List ℕ) → All (λ b. p b ≡ true) l → leading p l ≡ length l
 leading-all p [] all = refl
@@ -59,7 +58,7 @@ all-text-lines : (ls : List (List ℕ)) → All Short ls → allText (joinLines 
 all-text-lines [] all = refl
 all-text-lines (l ∷ ls) all = all-text-line l (joinLines ls) (all .0 .printed) (all-text-lines ls (all .1))
 
-length-lines : (ls : List (List ℕ)) → All Short ls → length (joinLines ls) ≤ 21 * length ls
+length-lines : (ls : List (List ℕ)) → All Short ls → length (joinLines ls) ≤ 25 * length ls
 length-lines [] all = omega arith
 length-lines (l ∷ ls) all =
     let more = length-lines ls (all .1) in
@@ -94,10 +93,6 @@ is-text ls l all few =
     yes n last b some few end all = grind (arith, tells)
 
 -- a text is cut into the lines that make it, and nothing is left
-first-part : (t : List ℕ) → (l : List ℕ) × (ls : List (List ℕ)) × (split t ≡ l ∷ ls)
-first-part t =
-    ⊎-elim (λ h. (_, _, split-at t 0 h)) (λ h. (_, _, split-end t 0 h)) (cases-lt (lineEnd t 0) (length t))
-
 split-ended : (u : List ℕ) → split (u ++ (10 ∷ [])) ≡ split u ++ ([] ∷ [])
 split-ended [] = refl
 split-ended (b ∷ u) = by (eqb b 10) (split-ended u)
@@ -105,7 +100,7 @@ split-ended (b ∷ u) = by (eqb b 10) (split-ended u)
     by : (t : Bool) → split (u ++ (10 ∷ [])) ≡ split u ++ ([] ∷ []) → cond t ([] ∷ split (u ++ (10 ∷ []))) (before b (split (u ++ (10 ∷ [])))) ≡ cond t ([] ∷ split u) (before b (split u)) ++ ([] ∷ [])
     by true more = ap (λ x. [] ∷ x) more
     by false more =
-        let p = first-part u in
+        let p = some-part u in
         ap (before b) more ∙ ap (λ x. before b (x ++ ([] ∷ []))) (p .2) ∙ ap (λ x. before b x ++ ([] ∷ [])) (sym (p .2))
 
 join-split : (u : List ℕ) → joinLines (split u) ≡ u ++ (10 ∷ [])
@@ -115,7 +110,7 @@ join-split (b ∷ u) = by (eqb b 10) (eqb-true b 10) (join-split u)
     by : (t : Bool) → (t ≡ true → b ≡ 10) → joinLines (split u) ≡ u ++ (10 ∷ []) → joinLines (cond t ([] ∷ split u) (before b (split u))) ≡ b ∷ (u ++ (10 ∷ []))
     by true end more = ap (λ x. 10 ∷ x) more ∙ ap (λ x. x ∷ (u ++ (10 ∷ []))) (sym (end refl))
     by false end more =
-        let p = first-part u in
+        let p = some-part u in
         ap (λ x. joinLines (before b x)) (p .2) ∙ ap (λ x. b ∷ joinLines x) (sym (p .2)) ∙ ap (λ x. b ∷ x) more
 
 pub record Cut (t : List ℕ) (ls : List (List ℕ)) : Type 0 where
