@@ -7,30 +7,26 @@ ghost use Rattle.std.specs.shelf.Text.{sameBytes};
 ghost use Rattle.text.specs.Lines.{bytes};
 ghost use Rattle.text.specs.Pieces.{toldNumber, toldWord, toldRest};
 ghost use Rattle.forms.specs.Forms.{openIn, afterBlank, numberIn, plainWordIn, wordIn, keywordIn, countOf, sizeOf, inside, enclosed, argumentsOf, isClosing, FormsHold};
+use text::ByteClass;
 use text::Line;
 use text::Token;
+use text::run_end;
 
 /// Numbers from here on have more than two digits.
 const THREE_DIGITS: u32 = 100;
 
-fn is_inside(b: u8) -> bool
-    ensures { λ r. ⌜ r ≡ inside b ⌝ }
-{
-    match b {
-        b'(' | b')' => false,
-        _ => true,
-    }
-}
+/// The bytes that may stand between brackets.
+struct Inside;
 
-fn inside_end(text: &[u8], from: usize) -> usize
-    requires { ⌜ from ≤ length (now text) ⌝ }
-    ensures { λ r. ⌜ r ≡ from + leading inside (drop from (now (text .entry))) ⌝ ∗ ⌜ r ≤ length (now (text .entry)) ⌝ }
-{
-    let mut at = from;
-    while at < text.len() && is_inside(text[at]) {
-        at += 1;
+impl ByteClass for Inside as InsideBytes {
+    ghost has = { inside };
+
+    fn has(b: u8) -> bool {
+        match b {
+            b'(' | b')' => false,
+            _ => true,
+        }
     }
-    at
 }
 
 fn same_bytes(a: &[u8], b: &[u8]) -> bool
@@ -138,7 +134,7 @@ fn before_closing<'a>(line: Line<'a>) -> Option<Line<'a>>
     if at >= text.len() {
         return None;
     }
-    let end = inside_end(text, at);
+    let end = run_end::<Inside>(text, at);
     if end + 1 != text.len() {
         return None;
     }

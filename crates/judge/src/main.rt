@@ -5,9 +5,9 @@
 use judgement::judge_texts;
 use judgement::report;
 use std::env;
-use std::error::AnyError;
 use std::fs;
 use std::io;
+use std::io::ErrorKind;
 use std::io::Read;
 use std::io::Write;
 
@@ -21,31 +21,36 @@ fn read_bytes(rt: &LibcRuntime, path: &str) -> io::Result<Vec<u8>> {
     fs::read(rt, path)
 }
 
-/// The same, and where that fails standard error says of which path.
-fn read_input(rt: &LibcRuntime, path: &str) -> io::Result<Vec<u8>> {
-    match read_bytes(rt, path) {
-        Ok(bytes) => Ok(bytes),
+fn write_answer(rt: &LibcRuntime, answer: &str) -> io::Result<()> {
+    let mut out = rt.stdout();
+    out.write_all(answer.as_bytes())?;
+    out.flush()
+}
+
+/// Says on standard error what failed and why, and hands the failure on.
+fn say<T>(rt: &LibcRuntime, name: &str, result: io::Result<T>) -> io::Result<T> {
+    match result {
+        Ok(value) => Ok(value),
         Err(error) => {
-            eprintln!(rt, "judge: cannot read {path}")?;
+            eprintln!(rt, "judge: {name}: {error}")?;
             Err(error)
         }
     }
 }
 
-fn run(rt: &LibcRuntime) -> Result<(), AnyError> {
-    let mut args = env::args(rt)?.skip(1);
-    let (Some(level), Some(way), None) = (args.next(), args.next(), args.next()) else {
-        return Err("usage: judge LEVEL WAY".into());
-    };
-    let level = read_input(rt, level.as_str())?;
-    let way = read_input(rt, way.as_str())?;
-    let answer = report(rt.alloc(), judge_texts(level.as_slice(), way.as_slice()))?;
-    let mut out = rt.stdout();
-    out.write_all(answer.as_bytes())?;
-    out.flush()?;
-    Ok(())
+fn judge_files(rt: &LibcRuntime, level: &str, way: &str) -> io::Result<()> {
+    let level_text = say(rt, level, read_bytes(rt, level))?;
+    let way_text = say(rt, way, read_bytes(rt, way))?;
+    let judgement = judge_texts(level_text.as_slice(), way_text.as_slice());
+    let answer = report(rt.alloc(), judgement)?;
+    say(rt, "standard output", write_answer(rt, answer.as_str()))
 }
 
-fn main(rt: LibcRuntime) -> Result<(), AnyError> {
-    rt.report(run(&rt))
+fn main(rt: LibcRuntime) -> io::Result<()> {
+    let mut args = env::args(&rt)?.skip(1);
+    let (Some(level), Some(way), None) = (args.next(), args.next(), args.next()) else {
+        eprintln!(rt, "usage: judge LEVEL WAY")?;
+        return Err(ErrorKind::InvalidInput.into());
+    };
+    judge_files(&rt, level.as_str(), way.as_str())
 }

@@ -1,7 +1,7 @@
 ghost use mathlib.Core.Path.{_≡_};
-ghost use Prim.Native.Nat.{_≤_};
-ghost use lib.ListN.{length};
-ghost use Rattle.text.specs.Lines.{told, lineAt, lineEnd, textByte, allText, isText};
+ghost use Rattle.text.specs.Lines.{told, lineAt, inLine, textByte, allText, isText};
+use super::run::ByteClass;
+use super::run::run_end;
 
 /// The most bytes that the text of a level may have.
 const MOST_BYTES: usize = 4096;
@@ -47,15 +47,15 @@ pub fn is_text(text: &[u8]) -> bool
     all_text(text)
 }
 
-fn line_end(text: &[u8], from: usize) -> usize
-    requires { ⌜ from ≤ length (now text) ⌝ }
-    ensures { λ r. ⌜ r ≡ lineEnd (now (text .entry)) from ⌝ ∗ ⌜ r ≤ length (now (text .entry)) ⌝ }
-{
-    let mut at = from;
-    while at < text.len() && text[at] != b'\n' {
-        at += 1;
+/// The bytes of a line: all but the line end.
+struct InLine;
+
+impl ByteClass for InLine as InLineBytes {
+    ghost has = { inLine };
+
+    fn has(b: u8) -> bool {
+        b != b'\n'
     }
-    at
 }
 
 /// The line that begins at a place, if a line end follows there.
@@ -65,7 +65,7 @@ pub fn next_line<'a>(text: &'a [u8], from: usize) -> Option<Line<'a>>
     if from >= text.len() {
         return None;
     }
-    let end = line_end(text, from);
+    let end = run_end::<InLine>(text, from);
     if end == text.len() {
         return None;
     }

@@ -1,13 +1,13 @@
 ghost use mathlib.Core.Path.{_≡_};
-ghost use Prim.Native.Nat.{ℕ, _+_, _≤_};
 ghost use lib.Dec.{eqb};
-ghost use lib.ListN.{length, drop};
-ghost use Rattle.std.specs.shelf.Lists.{leading};
+ghost use lib.ListN.{length};
 ghost use Rattle.std.specs.Options.{Cases as BySome};
 ghost use Rattle.text.specs.Lines.{bytes};
 ghost use Rattle.text.specs.Pieces.{said, plain, ofRun, pieceIn, toldPiece, Within};
 use super::line::Line;
 use super::number::read_number;
+use super::run::ByteClass;
+use super::run::run_end;
 
 /// A piece of a line: a bracket, a number of one to seven digits without leading zero, or any other word.
 #[derive(Clone, Copy)]
@@ -25,24 +25,18 @@ pub struct Piece<'a> {
     pub at: usize,
 }
 
-fn is_plain(b: u8) -> bool
-    ensures { λ r. ⌜ r ≡ plain b ⌝ }
-{
-    match b {
-        b' ' | b'(' | b')' => false,
-        _ => true,
-    }
-}
+/// The bytes of words and numbers: neither blanks nor brackets.
+pub(crate) struct Plain;
 
-fn run_end(text: &[u8], from: usize) -> usize
-    requires { ⌜ from ≤ length (now text) ⌝ }
-    ensures { λ r. ⌜ r ≡ from + leading plain (drop from (now (text .entry))) ⌝ ∗ ⌜ r ≤ length (now (text .entry)) ⌝ }
-{
-    let mut at = from;
-    while at < text.len() && is_plain(text[at]) {
-        at += 1;
+impl ByteClass for Plain as PlainBytes {
+    ghost has = { plain };
+
+    fn has(b: u8) -> bool {
+        match b {
+            b' ' | b'(' | b')' => false,
+            _ => true,
+        }
     }
-    at
 }
 
 fn token_of<'a>(run: &'a [u8]) -> Token<'a>
@@ -77,7 +71,7 @@ impl<'a> Line<'a> {
             b')' => (Token::Close, at + 1),
             b' ' => return None,
             _ => {
-                let end = run_end(text, at);
+                let end = run_end::<Plain>(text, at);
                 (token_of(&text[at..end]), end)
             }
         };

@@ -1,7 +1,8 @@
 -- A tile level and the game that it is. Assumes nothing.
-use mathlib.Core.Bool.{Bool}
+use mathlib.Core.Bool.{Bool, _&&_}
 use mathlib.Core.List.{List}
 use Prim.Native.Nat.{ℕ, _*_, _≤_}
+use lib.Dec.{leb}
 use Rattle.std.specs.declared.option.Option.{Option}
 use Rattle.std.specs.declared.option.Option.the-variants.{Some, None}
 use Rattle.grid.specs.declared.Direction.{Direction}
@@ -18,6 +19,10 @@ pub record Tiles : Type 0 where
 
 abbrev pub tilesOf : ℕ → ℕ → ℕ → Tiles
 tilesOf w h p = record { width = w; height = h; start = p }
+
+-- a side of 2 to 4 cells
+abbrev pub side : ℕ → Bool
+side n = leb 2 n && leb n 4
 
 -- numbers make a level where the board is 2 to 4 cells wide and high, and each tile number is on exactly one cell
 pub record Valid (l : Tiles) : Type 0 where

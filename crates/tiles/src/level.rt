@@ -4,6 +4,8 @@ use grid::Grid;
 
 mod moves;
 
+pub use moves::is_side;
+
 /// A sliding-tile level: 2 to 4 cells wide and high, each tile number on exactly one cell.
 ///
 /// A position is one number with four bits a cell in reading order, the first cell lowest, 0 for the blank.

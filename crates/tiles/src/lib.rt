@@ -3,3 +3,4 @@ mod level;
 mod position;
 
 pub use level::TileLevel;
+pub use level::is_side;

@@ -24,7 +24,8 @@ use Rattle.forms.specs.Forms.{sizeOf, argumentsOf, isClosing, inside, closing, 
 use Rattle.text.proofs.Cases.{clash}
 use Rattle.forms.proofs.Laws.{forms-hold}
 use Rattle.tiles_text.specs.Writing.{spaced, rowLine}
-use Rattle.tiles_text.specs.Reading.{Form, size, row, close, other, rowOr, sizeOr, formOf, Expect, head, rows, last, nothing, side, numbersIn, afterRow, withRow, next, taken}
+use Rattle.tiles.specs.Level.{side}
+use Rattle.tiles_text.specs.Reading.{Form, size, row, close, other, rowOr, sizeOr, formOf, Expect, head, rows, last, nothing, numbersIn, afterRow, withRow, next, taken}
 use Rattle.tiles_text.specs.Reader.{Sized}
 use Rattle.tiles_text.proofs.Rows.{numbers-only, numbers-all}
 use Rattle.text.proofs.Texts.{Printed, printed-by, Short, leading-all}

@@ -4,7 +4,7 @@ use mathlib.Core.Bool.{Bool, true, false, cond, _&&_}
 use mathlib.Core.List.{List, [], _∷_, _++_}
 use Prim.Native.Nat.{ℕ, zero, suc, _-_, _*_}
 use lib.Chars.{codes}
-use lib.Dec.{eqb, leb, ltb}
+use lib.Dec.{eqb, ltb}
 use lib.ListN.{length}
 use Rattle.std.specs.shelf.Lists.{countBy}
 use Rattle.std.specs.declared.option.Option.{Option}
@@ -18,7 +18,7 @@ use Rattle.text.specs.Lines.{isText, split, Reading, readLines}
 use Rattle.forms.specs.Forms.{_then_, numberIn, sizeOf, argumentsOf, isClosing}
 use Rattle.tiles.specs.Board.{packed}
 use Rattle.tiles.specs.declared.level.TileLevel.{TileLevel}
-use Rattle.tiles.specs.Level.{Tiles, tilesOf, tiles, Valid}
+use Rattle.tiles.specs.Level.{Tiles, tilesOf, tiles, side, Valid}
 use Rattle.tiles_text.specs.Writing.{levelText}
 
 -- the form of a line: `(tiles W H`, `(row X)` with the blank before its X, `)`, or none of these
@@ -49,10 +49,6 @@ pub data Expect : Type 0 where
   rows : ℕ → ℕ → ℕ → List ℕ → Expect
   last : ℕ → ℕ → List ℕ → Expect
   nothing : ℕ → ℕ → List ℕ → Expect
-
--- a side of 2 to 4 cells
-abbrev pub side : ℕ → Bool
-side n = leb 2 n && leb n 4
 
 -- k numbers below a limit, each after one blank, and nothing else
 abbrev pub numbersIn : ℕ → ℕ → List ℕ → Option (List ℕ)

@@ -2,7 +2,7 @@ ghost use mathlib.Core.Path.{_≡_};
 ghost use Prim.Native.Nat.{_*_, _<_};
 ghost use Rattle.text.specs.Lines.{bytes};
 ghost use Rattle.tiles.specs.Level.{packedTo};
-ghost use Rattle.tiles_text.specs.Reading.{formOf, side, numbersIn, taken, finish, readLevel, told, ReadsExactly};
+ghost use Rattle.tiles_text.specs.Reading.{formOf, numbersIn, taken, finish, readLevel, told, ReadsExactly};
 ghost use Rattle.tiles_text.specs.Reader.{said, view, Sized, Sound, Answers};
 use grid::Grid;
 use refusals::Fault;
@@ -11,12 +11,7 @@ use text::Line;
 use text::is_text;
 use text::next_line;
 use tiles::TileLevel;
-
-/// The fewest cells that a board is wide and high.
-const SHORTEST_SIDE: u32 = 2;
-
-/// The most cells that a board is wide and high.
-const LONGEST_SIDE: u32 = 4;
+use tiles::is_side;
 
 /// The bits of a position that a cell takes.
 const CELL_BITS: usize = 4;
@@ -55,13 +50,6 @@ struct Reader {
     cells: u64,
     /// How many they are.
     count: usize,
-}
-
-// Whether a board may be this wide, or this high.
-fn is_side(length: u32) -> bool
-    ensures { λ r. ⌜ r ≡ side length ⌝ }
-{
-    SHORTEST_SIDE <= length && length <= LONGEST_SIDE
 }
 
 // The form that a line has: each is told from the others by its first word.

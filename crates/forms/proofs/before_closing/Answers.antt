@@ -7,11 +7,11 @@ pub returns-then-at-text : need.returns-then-at-text
 returns-then-at-text c = enclosed-end (c .args .line .text .now) (c .args .line .at) (c .if-at-text .taken)
 
 pub returns-then-end-text : need.returns-then-end-text
-returns-then-end-text c = enclosed-not _ _ _ (c .if-at-text .left) (c .inside-end-end .ensures .0) (λ e _ _ _. c .if-end-text .taken e)
+returns-then-end-text c = enclosed-not _ _ _ (c .if-at-text .left) (c .run-end-end .ensures .ends) (λ e _ _ _. c .if-end-text .taken e)
 
 pub returns-then-end-at-lt2 : need.returns-then-end-at-lt2
 returns-then-end-at-lt2 c =
-    enclosed-not _ _ _ (c .if-at-text .left) (c .inside-end-end .ensures .0)
+    enclosed-not _ _ _ (c .if-at-text .left) (c .run-end-end .ensures .ends)
     (λ _ n b l.
     elim (c .then-end-at-lt2 .came) [
       | then-end-at-lt2·by·then-end-at-lt2 w ↦ omega (arith, w .if-end-at-lt2 .taken)
@@ -20,4 +20,4 @@ returns-then-end-at-lt2 c =
     ])
 
 pub returns : need.returns
-returns c = enclosed-here _ _ _ (c .if-at-text .left) (c .inside-end-end .ensures .0) _ (omega arith) (c .if-end-text .left) (c .if-end-at-lt2 .left) (c .if-text-at-ne32 .left) (c .if-text-end-ne41 .left)
+returns c = enclosed-here _ _ _ (c .if-at-text .left) (c .run-end-end .ensures .ends) _ (omega arith) (c .if-end-text .left) (c .if-end-at-lt2 .left) (c .if-text-at-ne32 .left) (c .if-text-end-ne41 .left)

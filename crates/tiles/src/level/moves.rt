@@ -5,7 +5,7 @@ ghost use Rattle.std.specs.Options.{Cases as BySome};
 ghost use Rattle.std.specs.Orderings.{Decides};
 ghost use Rattle.puzzle.specs.Game.{Played};
 ghost use Rattle.tiles.specs.Board.{cells, blankFrom, home};
-ghost use Rattle.tiles.specs.Level.{tiles, tilesOf, Valid, sent, moved, finished};
+ghost use Rattle.tiles.specs.Level.{tiles, tilesOf, Valid, side, sent, moved, finished};
 use super::TileLevel;
 use crate::position::is_numbered;
 use crate::position::tile_at;
@@ -13,13 +13,16 @@ use crate::position::with_swapped;
 use grid::Direction;
 use grid::Grid;
 
-const SHORTEST_SIDE: u8 = 2;
+/// The fewest cells that a board is wide and high.
+const SHORTEST_SIDE: u32 = 2;
 
-const LONGEST_SIDE: u8 = 4;
+/// The most cells that a board is wide and high.
+const LONGEST_SIDE: u32 = 4;
 
-// Whether a board may be this wide, or this high.
-fn is_side(length: u8) -> bool
-    ensures { λ r. ⌜ Decides r ((2 ≤ length) × (length ≤ 4)) ⌝ }
+/// Whether a board may be this wide, or this high.
+pub fn is_side(length: u32) -> bool
+    ensures says { λ r. ⌜ r ≡ side length ⌝ }
+    ensures decides { λ r. ⌜ Decides r ((2 ≤ length) × (length ≤ 4)) ⌝ }
 {
     SHORTEST_SIDE <= length && length <= LONGEST_SIDE
 }
@@ -38,7 +41,10 @@ impl TileLevel {
     pub fn new(grid: Grid, start: u64) -> Option<TileLevel>
         ensures { λ r. ⌜ BySome r (Valid (tilesOf (grid .width) (grid .height) start) → ⊥) (λ l. (tiles l ≡ tilesOf (grid .width) (grid .height) start) × Valid (tiles l)) ⌝ }
     {
-        if is_side(grid.width) && is_side(grid.height) && is_numbered(start, grid.cells()) {
+        if is_side(grid.width as u32)
+            && is_side(grid.height as u32)
+            && is_numbered(start, grid.cells())
+        {
             Some(TileLevel { grid, start })
         } else {
             None

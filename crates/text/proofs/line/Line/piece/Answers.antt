@@ -45,7 +45,7 @@ returns c =
           record {
             says =
                 ap (says t) (w .end-is) ∙ ap (λ s. Some (s, drop (w .run-end-end .result) t)) (w .token-of .ensures)
-                ∙ at-run t at (w .run-end-end .result) inside (λ e. omega arith) (λ e. omega arith) (λ e. omega arith) (ran .0);
+                ∙ at-run t at (w .run-end-end .result) inside (λ e. omega arith) (λ e. omega arith) (λ e. omega arith) (ran .ends);
             lies = (refl, record { same = refl; on = omega arith; inside = omega arith });
           }
     ]

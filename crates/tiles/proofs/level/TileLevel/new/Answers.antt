@@ -9,8 +9,8 @@ use Rattle.tiles.proofs.level.TileLevel.new.Needs.{else-is-side·by·then-is-s
 
 pub is-numbered-requires : need.is-numbered-requires
 is-numbered-requires c κs =
-    let wide = c .is-side .ensures .0 (c .if-is-side .taken) in
-    let high = c .is-side-then-is-side .ensures .0 (c .if-is-side-2 .taken) in
+    let wide = c .is-side .ensures .decides .0 (c .if-is-side .taken) in
+    let high = c .is-side-then-is-side .ensures .decides .0 (c .if-is-side-2 .taken) in
     let some = some-cells _ _ (wide .0) (high .0) in
     let few = few-cells _ _ (wide .1) (high .1) in
     (omega arith, omega arith)
@@ -18,9 +18,9 @@ is-numbered-requires c κs =
 pub ghost-result : need.ghost-result
 ghost-result c =
     let numbered = c .is-numbered .ensures .0 (c .if-is-numbered .taken) in (
-      c .is-side .ensures .0 (c .if-is-side .taken),
+      c .is-side .ensures .decides .0 (c .if-is-side .taken),
       (
-        c .is-side-then-is-side .ensures .0 (c .if-is-side-2 .taken),
+        c .is-side-then-is-side .ensures .decides .0 (c .if-is-side-2 .taken),
         (subst (λ (n : ℕ). Numbered n (c .args .start)) (c .cells .ensures) numbered, tt),
       ),
     )
@@ -32,6 +32,6 @@ returns-else-is-side c v =
           not-from-decides _ (w .is-numbered .ensures) (w .if-is-numbered .left)
           (subst (λ (n : ℕ). Numbered n (c .args .start)) (sym (w .cells .ensures)) (v .numbered))
       | else-is-side·by·then-is-side·else-is-side-2 w ↦
-          not-from-decides _ (w .is-side-then-is-side .ensures) (w .if-is-side-2 .left) (v .high)
-      | else-is-side·by·else-is-side w ↦ not-from-decides _ (c .is-side .ensures) (w .if-is-side .left) (v .wide)
+          not-from-decides _ (w .is-side-then-is-side .ensures .decides) (w .if-is-side-2 .left) (v .high)
+      | else-is-side·by·else-is-side w ↦ not-from-decides _ (c .is-side .ensures .decides) (w .if-is-side .left) (v .wide)
     ]
