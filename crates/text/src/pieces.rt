@@ -49,11 +49,18 @@ fn token_of<'a>(run: &'a [u8]) -> Token<'a>
 }
 
 impl<'a> Line<'a> {
+    // How many bytes are left.
+    fn len(self) -> usize
+        ensures { λ r. ⌜ r ≡ length (bytes (self .entry)) ⌝ }
+    {
+        self.text.len().saturating_sub(self.at)
+    }
+
     /// Whether nothing is left.
     pub fn is_empty(self) -> bool
         ensures { λ r. ⌜ r ≡ eqb (length (bytes (self .entry))) 0 ⌝ }
     {
-        self.at >= self.text.len()
+        self.len() == 0
     }
 
     /// The piece at the front, and what is left after it. There is none at the end and at a blank.
