@@ -28,14 +28,31 @@ mod tests {
         }
     }
 
-    fn judged_is(level: &str, way: &str, number: u32, line: usize) -> Result<(), Fail> {
-        let (n, l) = judged(level, way);
-        check_eq(n, number).note(level).note(way)?;
-        check_eq(l, line).note(level).note(way)
+    fn judged_is(level: &str, way: &str, said: Said) -> Result<(), Fail> {
+        check(judged(level, way) == said).note(level).note(way)
     }
 
-    // Levels, each with what is said of the way of no moves.
-    static LEVELS: [(&str, u32, usize); 75] = [
+    const NO_MOVES: &str = "(way 0\n)\n";
+
+    const RING: &str = "(tiles 2 2\n(row 0 3)\n(row 2 1)\n)\n";
+
+    const FINISHED: &str = "(tiles 2 2\n(row 1 2)\n(row 3 0)\n)\n";
+
+    // What is said of the way of no moves.
+    fn level_is(level: &str, said: Said) -> Result<(), Fail> {
+        judged_is(level, NO_MOVES, said)
+    }
+
+    fn way_is(way: &str, said: Said) -> Result<(), Fail> {
+        judged_is(RING, way, said)
+    }
+
+    fn finished_way_is(way: &str, said: Said) -> Result<(), Fail> {
+        judged_is(FINISHED, way, said)
+    }
+
+    // Levels that are taken, and bytes that are no text.
+    static TEXTS: [(&str, u32, usize); 12] = [
         ("(tiles 2 2\n(row 0 3)\n(row 2 1)\n)\n", 45, 2),
         (
             "(tiles 3 3\n(row 1 2 3)\n(row 4 5 6)\n(row 7 0 8)\n)\n",
@@ -60,6 +77,18 @@ mod tests {
         ("(tiles 2 2\n(row 0 é)\n(row 2 1)\n)\n", 11, 0),
         ("(", 11, 0),
         ("(tiles 2 2\r\n", 11, 0),
+    ];
+
+    #[test]
+    fn reads_texts() -> Result<(), Fail> {
+        for (text, number, line) in TEXTS.iter() {
+            level_is(text, (*number, *line))?;
+        }
+        Ok(())
+    }
+
+    // Levels out of form at the head or the first row.
+    static HEADS: [(&str, u32, usize); 18] = [
         ("\n", 12, 1),
         ("(tile 2 2\n", 12, 1),
         ("(Tiles 2 2\n", 12, 1),
@@ -78,6 +107,18 @@ mod tests {
         ("(tiles 2 -2\n", 12, 1),
         ("(tiles 2 2\n", 12, 2),
         ("(tiles 2 2\n)\n", 12, 2),
+    ];
+
+    #[test]
+    fn reads_heads() -> Result<(), Fail> {
+        for (text, number, line) in HEADS.iter() {
+            level_is(text, (*number, *line))?;
+        }
+        Ok(())
+    }
+
+    // Levels out of form further on.
+    static ROWS: [(&str, u32, usize); 19] = [
         ("(tiles 2 2\n(row)\n", 12, 2),
         ("(tiles 2 2\n(row )\n", 12, 2),
         ("(tiles 2 2\n(rows 0 3)\n", 12, 2),
@@ -100,6 +141,19 @@ mod tests {
             12,
             5,
         ),
+        ("(tiles 2 2\n(row 0 1)\n(row 1 2)\n)\n)\n", 12, 5),
+    ];
+
+    #[test]
+    fn reads_rows() -> Result<(), Fail> {
+        for (text, number, line) in ROWS.iter() {
+            level_is(text, (*number, *line))?;
+        }
+        Ok(())
+    }
+
+    // Levels in form with a wrong size, a wrong row or wrong numbers.
+    static BOARDS: [(&str, u32, usize); 26] = [
         ("(tiles 1 2\n", 13, 1),
         ("(tiles 2 1\n", 13, 1),
         ("(tiles 0 0\n", 13, 1),
@@ -142,26 +196,18 @@ mod tests {
             18,
             6,
         ),
-        ("(tiles 2 2\n(row 0 1)\n(row 1 2)\n)\n)\n", 12, 5),
     ];
 
     #[test]
-    fn reads_levels() -> Result<(), Fail> {
-        for (level, number, line) in LEVELS.iter() {
-            judged_is(level, "(way 0\n)\n", *number, *line)?;
+    fn reads_boards() -> Result<(), Fail> {
+        for (text, number, line) in BOARDS.iter() {
+            level_is(text, (*number, *line))?;
         }
         Ok(())
     }
 
-    // The level that the ways below are for.
-    static RING: &str = "(tiles 2 2\n(row 0 3)\n(row 2 1)\n)\n";
-
-    static WAYS: [(&str, u32, usize); 44] = [
-        (
-            "(way 6\n(move right)\n(move down)\n(move left)\n(move up)\n(move right)\n(move down)\n)\n",
-            0,
-            6,
-        ),
+    // Ways out of form.
+    static FORMS: [(&str, u32, usize); 33] = [
         ("", 41, 1),
         ("\n", 41, 1),
         ("(way 6", 41, 1),
@@ -190,7 +236,6 @@ mod tests {
         ),
         ("(way 0\n", 41, 2),
         ("(way 0\n)", 41, 2),
-        ("(way 0\n)\n", 45, 2),
         ("(way 1\n)\n", 41, 1),
         (
             "(way 6\n(move right)\n(move down)\n(move left)\n(move up)\n(move right)\n(move down)\n)",
@@ -268,6 +313,29 @@ mod tests {
             1,
         ),
         (
+            "(way 8\n(move right)\n(move down)\n(move left)\n(move up)\n(move right)\n(move down)\n(move left)\n(move bad)\n)\n",
+            41,
+            9,
+        ),
+    ];
+
+    #[test]
+    fn judges_forms() -> Result<(), Fail> {
+        for (text, number, line) in FORMS.iter() {
+            way_is(text, (*number, *line))?;
+        }
+        Ok(())
+    }
+
+    // Ways in form.
+    static MOVES: [(&str, u32, usize); 11] = [
+        (
+            "(way 6\n(move right)\n(move down)\n(move left)\n(move up)\n(move right)\n(move down)\n)\n",
+            0,
+            6,
+        ),
+        ("(way 0\n)\n", 45, 2),
+        (
             "(way 7\n(move up)\n(move right)\n(move down)\n(move left)\n(move up)\n(move right)\n(move down)\n)\n",
             43,
             2,
@@ -293,11 +361,6 @@ mod tests {
             8,
         ),
         (
-            "(way 8\n(move right)\n(move down)\n(move left)\n(move up)\n(move right)\n(move down)\n(move left)\n(move bad)\n)\n",
-            41,
-            9,
-        ),
-        (
             "(way 5\n(move right)\n(move down)\n(move left)\n(move up)\n(move right)\n)\n",
             45,
             7,
@@ -315,10 +378,16 @@ mod tests {
         ),
     ];
 
-    // A level that is finished from the start.
-    static FINISHED: &str = "(tiles 2 2\n(row 1 2)\n(row 3 0)\n)\n";
+    #[test]
+    fn judges_moves() -> Result<(), Fail> {
+        for (text, number, line) in MOVES.iter() {
+            way_is(text, (*number, *line))?;
+        }
+        Ok(())
+    }
 
-    static FINISHED_WAYS: [(&str, u32, usize); 6] = [
+    // Ways from a position that is finished.
+    static AFTERWARDS: [(&str, u32, usize); 6] = [
         ("(way 0\n)\n", 0, 0),
         ("(way 1\n(move up)\n)\n", 44, 2),
         ("(way 1\n(move down)\n)\n", 43, 2),
@@ -328,12 +397,9 @@ mod tests {
     ];
 
     #[test]
-    fn judges_ways() -> Result<(), Fail> {
-        for (way, number, line) in WAYS.iter() {
-            judged_is(RING, way, *number, *line)?;
-        }
-        for (way, number, line) in FINISHED_WAYS.iter() {
-            judged_is(FINISHED, way, *number, *line)?;
+    fn judges_afterwards() -> Result<(), Fail> {
+        for (text, number, line) in AFTERWARDS.iter() {
+            finished_way_is(text, (*number, *line))?;
         }
         Ok(())
     }
@@ -372,18 +438,24 @@ mod tests {
         check(holds(&buffer, b"")).note(level)
     }
 
+    static GOOD: [&str; 5] = [
+        "(tiles 2 2\n(row 0 3)\n(row 2 1)\n)\n",
+        "(tiles 3 3\n(row 1 2 3)\n(row 4 5 6)\n(row 7 0 8)\n)\n",
+        "(tiles 4 4\n(row 1 2 3 4)\n(row 5 6 7 8)\n(row 9 10 11 12)\n(row 13 14 0 15)\n)\n",
+        "(tiles 2 4\n(row 1 2)\n(row 3 4)\n(row 5 6)\n(row 7 0)\n)\n",
+        "(tiles 4 2\n(row 1 2 3 4)\n(row 5 6 7 0)\n)\n",
+    ];
+
     #[test]
     fn writes_levels() -> Result<(), Fail> {
-        for (level, number, _) in LEVELS.iter() {
-            if *number == 0 || *number == 45 {
-                writes_back(level)?;
-            }
+        for level in GOOD.iter() {
+            writes_back(level)?;
         }
         Ok(())
     }
 
     // Move numbers for the level RING, the room for their way, what is said, and the text.
-    static MOVES: [([u32; 4], usize, usize, u32, usize, &str); 13] = [
+    static WRITTEN: [([u32; 4], usize, usize, u32, usize, &str); 13] = [
         ([0, 0, 0, 0], 0, 9, 0, 9, "(way 0\n)\n"),
         ([0, 0, 0, 0], 0, 8, 21, 0, ""),
         ([3, 0, 0, 0], 1, 22, 0, 22, "(way 1\n(move right)\n)\n"),
@@ -420,7 +492,7 @@ mod tests {
         }
     }
 
-    fn way_is(moves: &[u32], room: usize, said: Said, text: &str) -> Result<(), Fail> {
+    fn written_is(moves: &[u32], room: usize, said: Said, text: &str) -> Result<(), Fail> {
         let mut buffer = [UNTOUCHED; ROOM];
         check(way_written(moves, room, &mut buffer) == said).note(text)?;
         check(holds(&buffer, text.as_bytes())).note(text)
@@ -428,8 +500,8 @@ mod tests {
 
     #[test]
     fn writes_ways() -> Result<(), Fail> {
-        for (moves, count, room, number, line, text) in MOVES.iter() {
-            way_is(&moves[0..(*count).min(4)], *room, (*number, *line), text)?;
+        for (moves, count, room, number, line, text) in WRITTEN.iter() {
+            written_is(&moves[0..(*count).min(4)], *room, (*number, *line), text)?;
         }
         Ok(())
     }

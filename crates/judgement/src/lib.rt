@@ -2,7 +2,7 @@
 ghost use mathlib.Core.Path.{_≡_};
 ghost use Rattle.std.specs.Of.String.{string-bytes};
 ghost use Rattle.std.specs.Vec.{made};
-ghost use Rattle.judgement.specs.Judgement.{judgedTexts, reportText};
+ghost use Rattle.judgement.specs.Judgement.{judgedTexts, JudgesExactly, reportText};
 use refusals::Refusal;
 use std::alloc::AllocError;
 use std::alloc::Global;
@@ -14,7 +14,8 @@ use ways::judge;
 /// Judges a way for a level, both as texts: the number of moves of an accepted way, the refusal of the level, or the
 /// refusal of the way.
 pub fn judge_texts(level_text: &[u8], way_text: &[u8]) -> Result<u32, Refusal>
-    ensures { λ r. ⌜ r ≡ judgedTexts (now («level_text» .entry)) (now («way_text» .entry)) ⌝ }
+    ensures answers { λ r. ⌜ r ≡ judgedTexts (now («level_text» .entry)) (now («way_text» .entry)) ⌝ }
+    ensures exactly { λ _. ⌜ JudgesExactly (now («level_text» .entry)) (now («way_text» .entry)) ⌝ }
 {
     let level = read_level(level_text)?;
     judge(&TileKind(level), way_text)
