@@ -8,7 +8,7 @@ ghost use Prim.Native.Nat.{_≤_};
 ghost use lib.ListN.{drop};
 ghost use denote.Ref.{name};
 ghost use Rattle.std.specs.Written.{decimal};
-ghost use Rattle.pen.specs.Ink.{ink, freshInk, dryInk, Inked, put, count};
+ghost use Rattle.pen.specs.Ink.{ink, freshInk, dryInk, Inked};
 
 /// A place in a buffer to write on from, with the room that is left.
 ///

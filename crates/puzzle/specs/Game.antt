@@ -23,11 +23,7 @@ module _ {P : Type 0} (g : Game P) where
   abbrev pub Reached : P → Type 0
   Reached p = (ms : List ℕ) × Plays (g .start) ms p
 
-  -- legal moves that finish
-  abbrev pub Finishes : List ℕ → Type 0
-  Finishes ms = (p : P) × Plays (g .start) ms p × (g .finished p ≡ true)
-
-  -- the same, where no position before the last is finished
+  -- legal moves that lead to a finished position and pass none before
   pub data Solves : P → List ℕ → Type 0 where
     solved : {p : P} → g .finished p ≡ true → Solves p []
     step : {p q : P} {m : ℕ} {ms : List ℕ} → g .finished p ≡ false → m < g .count → g .move p m ≡ Some q → Solves q ms → Solves p (m ∷ ms)
