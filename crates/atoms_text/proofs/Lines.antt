@@ -1,7 +1,8 @@
 -- The lines of a level are short lines of printed characters. Assumes nothing.
-use Rattle.std.proofs.Common.{◌≡◌, ℕ, zero, suc, ◌^◌, ◌<◌, ◌≤◌, List, ◌∷◌, ◌++◌, map, length, take, drop, codes, decimal, All, refl, ap, arith}
+use Rattle.std.proofs.Common.{◌≡◌, ℕ, zero, suc, ◌^◌, ◌<◌, ◌≤◌, List, ◌∷◌, ◌++◌, map, length, take, drop, codes, decimal, refl, ap, arith}
+use Rattle.std.specs.List.{AllByRecursion as All}
 use Rattle.std.proofs.lemmas.Fmt.{decimal_by_steps, length-decimal-le}
-use Rattle.std.proofs.lemmas.List.Elements.{All-append, All-push}
+use Rattle.std.proofs.ByRecursion.{All-append, All-push}
 use Rattle.std.proofs.lemmas.List.{length-append, length-map, length-take}
 use Rattle.text.proofs.Texts.{Printed, printed_by, Short}
 use Rattle.forms.specs.Forms.{closing}

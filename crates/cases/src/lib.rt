@@ -1,4 +1,5 @@
 //! Levels and ways, good and damaged, with what is said of each. The crate is there for its tests.
+#![tactic(auto)]
 #[cfg(test)]
 mod atoms;
 #[cfg(test)]

@@ -1,4 +1,6 @@
 //! The forms that lines of levels and ways have.
+#![tactic(auto)]
+
 ghost use Rattle.std.specs.Prelude.{◌≡◌};
 ghost use Rattle.std.specs.List.{prefix_len};
 ghost use Rattle.text.specs.Lines.{bytes};

@@ -1,4 +1,6 @@
 //! Rectangular boards: directions, cells in reading order, and the cell beside a cell.
+#![tactic(auto)]
+
 ghost use Rattle.std.specs.Prelude.{◌≡◌, ◌+◌, ◌*◌, ◌<◌};
 ghost use Rattle.std.specs.Str.{bytes_eq};
 ghost use Rattle.grid.specs.Grid.{number_of, direction_of, word_of, of_word, neighbour};

@@ -1,4 +1,5 @@
 //! Levels of every kind: a text's first line tells which.
+#![tactic(auto)]
 ghost use Rattle.std.specs.Prelude.{◌≡◌};
 ghost use Rattle.levels.specs.Levels.{says_atoms, read_level, told, ReadsExactly};
 

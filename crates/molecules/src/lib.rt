@@ -1,4 +1,6 @@
 //! Wanted molecules: how one is drawn, where it can lie on a board, and which atom it wants on which cell.
+#![tactic(auto)]
+
 mod labels;
 mod molecule;
 mod places;

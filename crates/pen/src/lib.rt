@@ -3,6 +3,8 @@
 //! A writer of text takes a `&mut Pen`. It is called twice: with a dry pen, which only measures,
 //! and then, if the text fits, with a pen over the buffer. So a text that does not fit leaves the
 //! buffer as it was.
+#![tactic(auto)]
+
 ghost use Rattle.std.specs.Prelude.{◌≡◌, ◌≤◌, drop, decimal};
 ghost use Rattle.pen.specs.Ink.{ink, fresh_ink, dry_ink, Inked};
 

@@ -1,4 +1,6 @@
 //! Pictures: rectangles of cells, as boards and molecules are drawn.
+#![tactic(auto)]
+
 mod cell;
 mod picture;
 

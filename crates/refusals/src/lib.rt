@@ -1,4 +1,6 @@
 //! Refusals: why, under which number, and the line they name.
+#![tactic(auto)]
+
 ghost use Rattle.std.specs.Prelude.{◌≡◌};
 ghost use Rattle.refusals.specs.Refusals.{number_of};
 

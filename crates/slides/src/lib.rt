@@ -1,4 +1,6 @@
 //! Slides over a board: sets of cells, and where one comes to rest who slides over free cells.
+#![tactic(auto)]
+
 mod cell_set;
 mod sliding;
 

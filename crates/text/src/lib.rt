@@ -1,4 +1,6 @@
 //! Lines of a text and their pieces: brackets, words and decimal numbers, each with its place.
+#![tactic(auto)]
+
 mod line;
 mod number;
 mod pieces;

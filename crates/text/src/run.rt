@@ -11,7 +11,7 @@ pub trait ByteClass {
 
 /// Where the run of bytes of a class that begins at a place ends.
 pub fn run_end<C: ByteClass>(text: &[u8], from: usize) -> usize
-    ensures ends { result ≡ from + prefix_len has (drop from text.now) }
+    ensures ends { result ≡ from + prefix_len C.has (drop from text.now) }
     ensures inside { from ≤ length text.now → result ≤ length text.now }
 {
     let mut at = from;

@@ -1,4 +1,6 @@
 //! Tile levels: the board, its positions, the moves of the blank, and the finished position.
+#![tactic(auto)]
+
 mod level;
 mod position;
 

@@ -1,6 +1,6 @@
 -- A row that is taken by a reader. Assumes nothing.
 use Rattle.std.proofs.Common.{◌≡◌, ℕ, ◌+◌, ◌-◌, ◌*◌, ◌%◌, ◌^◌, ◌<◌, ◌≤◌, List, Some, None, Ok, Option, sym, refl, ap, ◌∙◌, subst, add-mul, arith}
-use Rattle.std.proofs.lemmas.List.Elements.{All-weaker}
+use Rattle.std.proofs.ByRecursion.{All-weaker}
 use Rattle.std.proofs.lemmas.Bool.{cond-true, cond-false, eq-eqb, ne_eqb}
 use Rattle.text.proofs.Cases.{never}
 use Rattle.tiles.specs.Board.{packed, unpacked}

@@ -1,4 +1,5 @@
 //! Tile levels as text: reading one, with a refusal by number and line, and writing one.
+#![tactic(auto)]
 mod reader;
 mod writer;
 

@@ -1,4 +1,5 @@
 //! Ways: the judge of written ways and the writer of ways, for every kind of level.
+#![tactic(auto)]
 mod judging;
 mod kind;
 mod writing;

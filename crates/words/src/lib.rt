@@ -1,4 +1,6 @@
 //! The words of a line: one blank and a number or a word at its front, and the keyword after an opening bracket.
+#![tactic(auto)]
+
 ghost use Rattle.std.specs.Prelude.{◌≡◌};
 ghost use Rattle.std.specs.Str.{bytes_eq};
 ghost use Rattle.text.specs.Lines.{bytes};

@@ -7,4 +7,4 @@ use Rattle.forms.proofs.is_closing.Goals as goal
 pub returns-in-Close : goal.returns-in-Close
 returns-in-Close c =
     let told = c.in-Some.ensures.says in
-    c.is-empty.ensures ∙ closing_rest (bytes c.args.line) (bytes c.in-Some.rest) (ap (λ t. Some (said t, bytes c.in-Some.rest)) (sym c.in-Close.is) ∙ told)
+    c.is_empty.ensures ∙ closing_rest (bytes c.args.line) (bytes c.in-Some.rest) (ap (λ t. Some (said t, bytes c.in-Some.rest)) (sym c.in-Close.is) ∙ told)

@@ -10,8 +10,8 @@ loop-rest-init c =
     let text = ap (λ l. decimal n ++ l) (drop_all 10 c.args.digits.now (omega arith)) ∙ append-nil (decimal n) in
     (text, length-decimal-le 10 n (omega arith) (omega arith) (omega arith), omega arith, omega arith)
 
-pub overflow-sub-at : goal.overflow-sub-at
-overflow-sub-at c =
+pub overflow_sub-at : goal.overflow_sub-at
+overflow_sub-at c =
     let rest = c.loop-rest.rest in
     omega (arith, length_step rest c.loop-rest-test.true (omega arith), decimal_nonempty (rest / 10) (omega arith))
 

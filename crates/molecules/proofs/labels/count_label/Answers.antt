@@ -2,20 +2,20 @@ use Rattle.std.proofs.Common.{sym, ap, ◌∙◌, arith}
 use Rattle.molecules.specs.Atoms.{has_label}
 use Rattle.molecules.proofs.Counts.{cells_of, count_few, count_yes, count_no, count_all}
 use Rattle.molecules.proofs.labels.count_label.Goals as goal
-use Rattle.molecules.proofs.labels.count_label.Goals.{then-has-label, else-has-label}
+use Rattle.molecules.proofs.labels.count_label.Goals.{then-has_label, else-has_label}
 
-pub overflow-add-count : goal.overflow-add-count
-overflow-add-count c = omega (arith, count_few (has_label c.args.label) c.args.picture.now _ _ c.loop-place.invariant)
+pub overflow_add-count : goal.overflow_add-count
+overflow_add-count c = omega (arith, count_few (has_label c.args.label) c.args.picture.now _ _ c.loop-place.invariant)
 
 pub loop-place-preserved : goal.loop-place-preserved
 loop-place-preserved c =
     let p = c.args.picture.now in
     let test = has_label c.args.label in
     let long = cells_of p _ _ c.grid.ensures c.cells-place-end.ensures in
-    let told = ap test (sym c.cell.ensures) ∙ sym c.has-label.ensures in
-    elim c.if-has-label.branch [
-      | then-has-label w ↦ w.count-is ∙ count_yes test p _ _ c.loop-place.invariant (omega arith) (told ∙ w.if-has-label.true)
-      | else-has-label w ↦ w.count-is ∙ count_no test p _ _ c.loop-place.invariant (omega arith) (told ∙ w.if-has-label.false)
+    let told = ap test (sym c.cell.ensures) ∙ sym c.has_label.ensures in
+    elim c.if-has_label.branch [
+      | then-has_label w ↦ w.count-is ∙ count_yes test p _ _ c.loop-place.invariant (omega arith) (told ∙ w.if-has_label.true)
+      | else-has_label w ↦ w.count-is ∙ count_no test p _ _ c.loop-place.invariant (omega arith) (told ∙ w.if-has_label.false)
     ]
 
 pub returns : goal.returns

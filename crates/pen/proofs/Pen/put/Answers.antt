@@ -36,7 +36,7 @@ returns c =
     let pen = ink c.args.self.now in
     elim c.if-room-long.branch [
       | then-room-long w ↦
-          simp (w.self-is, w.copy-from-slice.ensures.after)
+          simp (w.self-is, w.copy_from_slice.ensures.after)
           (record { wrote = real text pen c.if-self.false c.if-text-self.false _ (omega arith) w.if-room-long.true; same = refl })
       | else-room-long w ↦
           simp w.self-is (record { wrote = dry text pen c.if-self.false c.if-text-self.false w.if-room-long.false; same = refl })

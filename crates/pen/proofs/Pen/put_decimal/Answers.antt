@@ -4,6 +4,6 @@ use Rattle.pen.proofs.Pen.put_decimal.Goals as goal
 
 pub returns : goal.returns
 returns c =
-    let digits = c.write-digits-at in
+    let digits = c.write_digits-at in
     let text = between_to_end digits.new.digits digits.result 10 (omega arith) ∙ digits.ensures.wrote in
     record { wrote = rw text at c.put.ensures.wrote; same = c.put.ensures.same }

@@ -11,5 +11,5 @@ returns-in-48 c = record { spelled = search rules; back = numbers_read_back }
 pub returns-in-48-2 : goal.returns-in-48-2
 returns-in-48-2 c = record { spelled = search rules; back = numbers_read_back }
 
-pub returns-in-default : goal.returns-in-default
-returns-in-default c = record { spelled = search rules; back = numbers_read_back }
+pub returns-in_default : goal.returns-in_default
+returns-in_default c = record { spelled = search rules; back = numbers_read_back }

@@ -5,27 +5,27 @@ use Rattle.std.proofs.lemmas.Bool.{eq-eqb, ne_eqb}
 use Rattle.tiles.specs.Board.{unpacked}
 use Rattle.tiles.proofs.Board.{length_unpacked, get_or_cells}
 use Rattle.tiles.proofs.position.count.Goals as goal
-use Rattle.tiles.proofs.position.count.Goals.{then-tile-tile-at, else-tile-tile-at}
+use Rattle.tiles.proofs.position.count.Goals.{then-tile-tile_at, else-tile-tile_at}
 
 pub loop-cell-preserved : goal.loop-cell-preserved
 loop-cell-preserved c =
     let us = unpacked c.args.used c.args.position in
     let i = c.loop-cell.cell in
     let long : i < length us = omega (arith, length_unpacked c.args.used c.args.position) in
-    let here : c.tile-at.result ≡ get_or us i 0 =
-    c.tile-at.ensures ∙ get_or_cells c.args.used c.args.position i c.requires c.loop-cell-test.true in
-    elim c.if-tile-tile-at.branch [
-      | then-tile-tile-at w ↦ (
+    let here : c.tile_at.result ≡ get_or us i 0 =
+    c.tile_at.ensures ∙ get_or_cells c.args.used c.args.position i c.requires c.loop-cell-test.true in
+    elim c.if-tile-tile_at.branch [
+      | then-tile-tile_at w ↦ (
         omega (arith, w.found-is, c.loop-cell.invariant.0),
         w.found-is
             ∙ ap (λ k. k + 1) c.loop-cell.invariant.1
-            ∙ sym (count_by_more_yes (eqb c.args.tile) us i 0 long (eq-eqb _ _ (w.if-tile-tile-at.true ∙ here))),
+            ∙ sym (count_by_more_yes (eqb c.args.tile) us i 0 long (eq-eqb _ _ (w.if-tile-tile_at.true ∙ here))),
       )
-      | else-tile-tile-at w ↦ (
+      | else-tile-tile_at w ↦ (
         omega (arith, w.found-is, c.loop-cell.invariant.0),
         w.found-is
             ∙ c.loop-cell.invariant.1
-            ∙ sym (count_by_more_no (eqb c.args.tile) us i 0 long (ne_eqb _ _ (λ e. w.if-tile-tile-at.false (e ∙ sym here)))),
+            ∙ sym (count_by_more_no (eqb c.args.tile) us i 0 long (ne_eqb _ _ (λ e. w.if-tile-tile_at.false (e ∙ sym here)))),
       )
     ]
 

@@ -1,5 +1,5 @@
 use Rattle.std.proofs.Common.{◌≡◌, ℕ, ◌+◌, ◌-◌, ◌*◌, ◌%◌, ◌^◌, ◌<◌, ◌≤◌, length, get_or, sym, ap, ◌∙◌, subst, arith}
-use Rattle.std.proofs.lemmas.List.Elements.{All-get_or}
+use Rattle.std.proofs.ByRecursion.{All-get_or}
 use Rattle.tiles.specs.Board.{packed, cells, swapped}
 use Rattle.tiles.proofs.Board.{Small, length_cells, small_cells, packed_cells, shl_cell, tile_le, packed_swapped, packed_lt, length_swapped, small_swapped}
 use Rattle.tiles.proofs.position.with_swapped.Goals as goal
@@ -28,16 +28,16 @@ goes p b t v fits hb ht apart blank is =
     let power : 16 ^ length (swapped ts b t) ≡ 16 ^ 16 = ap (λ k. 16 ^ k) (length_swapped ts b t ∙ long) in
     record { part = omega arith; fits = omega arith; after = omega arith }
 
-at_call : (c : goal.After-tile-at-tile) → Goes c.args.position c.args.blank c.args.cell c.tile-at-tile.result
+at_call : (c : goal.After-tile_at-tile) → Goes c.args.position c.args.blank c.args.cell c.tile_at-tile.result
 at_call c =
     goes _ _ _ _ (omega (arith, c.ranges.position)) c.requires.target c.requires.source c.requires.apart c.requires.empty
-    c.tile-at-tile.ensures
+    c.tile_at-tile.ensures
 
-pub overflow-sub-result : goal.overflow-sub-result
-overflow-sub-result c = (at_call c).part
+pub overflow_sub-result : goal.overflow_sub-result
+overflow_sub-result c = (at_call c).part
 
-pub overflow-add-result : goal.overflow-add-result
-overflow-add-result c = omega (arith, (at_call c).ranges)
+pub overflow_add-result : goal.overflow_add-result
+overflow_add-result c = omega (arith, (at_call c).fits)
 
 pub returns : goal.returns
 returns c = (at_call c).after

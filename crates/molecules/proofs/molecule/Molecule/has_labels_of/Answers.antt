@@ -5,16 +5,16 @@ use Rattle.molecules.specs.Molecules.{wanted}
 use Rattle.molecules.proofs.Alike.{AlikeBefore, alike_decides, alike_on, not_alike}
 use Rattle.molecules.proofs.molecule.Molecule.has_labels_of.Goals as goal
 
-pub returns-then-count-label : goal.returns-then-count-label
-returns-then-count-label c =
+pub returns-then-count_label : goal.returns-then-count_label
+returns-then-count_label c =
     let b = c.args.board.now in
     let m = c.args.self.now.picture in
-    let says = sym (not_alike (shape b) (shape m) _ _ _ c.count-label.ensures c.count-label-in-loop-label.ensures (omega arith) (omega arith) c.if-count-label.true) in
+    let says = sym (not_alike (shape b) (shape m) _ _ _ c.count_label.ensures c.count_label-in-loop-label.ensures (omega arith) (omega arith) c.if-count_label.true) in
     record { says = says; decides = Decides-at _ _ says (alike_decides b m) }
 
 pub loop-label-preserved : goal.loop-label-preserved
 loop-label-preserved c =
-    alike_on (shape c.args.board.now) (wanted c.args.self.now) _ _ _ c.count-label.ensures c.count-label-in-loop-label.ensures (omega arith) c.loop-label.invariant c.if-count-label.false
+    alike_on (shape c.args.board.now) (wanted c.args.self.now) _ _ _ c.count_label.ensures c.count_label-in-loop-label.ensures (omega arith) c.loop-label.invariant c.if-count_label.false
 
 pub returns : goal.returns
 returns c =

@@ -6,19 +6,19 @@ use Rattle.molecules.specs.Places.{is_place}
 use Rattle.molecules.proofs.Counts.{cells_of, cell_small}
 use Rattle.molecules.proofs.Fitting.{lies_no_atom, lies_no_wall, lies_not, lies_all}
 use Rattle.molecules.proofs.places.finding.is_goal_place.Goals as goal
-use Rattle.molecules.proofs.places.finding.is_goal_place.Goals.{else-is-atom-via-then-is-atom+else-is-wall, else-is-atom-via-else-is-atom}
+use Rattle.molecules.proofs.places.finding.is_goal_place.Goals.{else-is-atom-via-then-is-atom+else-is_wall, else-is-atom-via-else-is-atom}
 
 pub under-requires : goal.under-requires
 under-requires c =
     (c.requires, cell_small c.picture-picture.result _ _ _ c.grid.ensures c.cells-i-end.ensures c.loop-i-test.true)
 
-pub returns-then-is-wall : goal.returns-then-is-wall
-returns-then-is-wall c =
+pub returns-then-is_wall : goal.returns-then-is_wall
+returns-then-is_wall c =
     let b = shape c.args.board.now in
     let m = c.picture-picture.result in
     let long = cells_of m _ _ c.grid.ensures c.cells-i-end.ensures in
-    let atom = ap is_atom (sym c.cell.ensures) ∙ sym c.is-atom.ensures ∙ c.if-is-atom.true in
-    let wall = ap is_wall (sym c.under.ensures) ∙ sym c.is-wall.ensures ∙ c.if-is-wall.true in
+    let atom = ap is_atom (sym c.cell.ensures) ∙ sym c.is_atom.ensures ∙ c.if-is_atom.true in
+    let wall = ap is_wall (sym c.under.ensures) ∙ sym c.is_wall.ensures ∙ c.if-is_wall.true in
     sym (lies_not b (shape m) c.args.place c.loop-i.i (omega arith) atom wall)
     ∙ ap (λ (p : Picture). is_place b (shape p) c.args.place) c.picture-picture.ensures
 
@@ -26,11 +26,11 @@ pub loop-i-preserved : goal.loop-i-preserved
 loop-i-preserved c =
     let b = shape c.args.board.now in
     let m = shape c.picture-picture.result in
-    elim c.else-is-atom.branch [
-      | else-is-atom-via-then-is-atom+else-is-wall w ↦
-          lies_no_wall b m _ _ c.loop-i.invariant (ap is_wall (sym w.under.ensures) ∙ sym w.is-wall.ensures ∙ w.if-is-wall.false)
+    elim c.else-is_atom.branch [
+      | else-is-atom-via-then-is-atom+else-is_wall w ↦
+          lies_no_wall b m _ _ c.loop-i.invariant (ap is_wall (sym w.under.ensures) ∙ sym w.is_wall.ensures ∙ w.if-is_wall.false)
       | else-is-atom-via-else-is-atom w ↦
-          lies_no_atom b m _ _ c.loop-i.invariant (ap is_atom (sym c.cell.ensures) ∙ sym c.is-atom.ensures ∙ w.if-is-atom.false)
+          lies_no_atom b m _ _ c.loop-i.invariant (ap is_atom (sym c.cell.ensures) ∙ sym c.is_atom.ensures ∙ w.if-is_atom.false)
     ]
 
 pub returns : goal.returns

@@ -5,14 +5,14 @@ use Rattle.pictures.proofs.Rows.{behind, framed, row_more, row_none, row_all, ro
 use Rattle.pictures.proofs.picture.Picture.with_row.Goals as goal
 use Rattle.pictures.proofs.picture.Picture.with_row.Goals.{After-loop-i}
 
-pub returns-in-err-cells : goal.returns-in-err-cells
-returns-in-err-cells c =
+pub returns-in_err-cells : goal.returns-in_err-cells
+returns-in_err-cells c =
     let p = c.args.self.now in
-    let none = sym c.loop-i.invariant.0 ∙ row_none _ _ _ c.loop-i-test.true c.in-err-cells.ensures.draws in
-    ap told c.from-residual.ensures ∙ sym (with_row_lem (shape p) _ c.if-row-width.false (omega arith) ∙ ap (framed _ _) none)
+    let none = sym c.loop-i.invariant.0 ∙ row_none _ _ _ c.loop-i-test.true c.in_err-cells.ensures.draws in
+    ap told c.from_residual.ensures ∙ sym (with_row_lem (shape p) _ c.if-row-width.false (omega arith) ∙ ap (framed _ _) none)
 
 -- the index of the next cell
-next : (c : goal.In-ok-cells) → c.cells-first.result + c.loop-i.i < 256
+next : (c : goal.In_ok-cells) → c.cells-first.result + c.loop-i.i < 256
 next c =
     let p = c.args.self.now in
     omega (arith, row_fits p.grid.width p.grid.height c.loop-i.i p.wide.1 (omega arith) (omega arith))
@@ -23,7 +23,7 @@ bounds-cells-first c = next c
 pub loop-i-preserved : goal.loop-i-preserved
 loop-i-preserved c =
     let inside = next c in (
-      row_more c.loop-i.cells _ _ _ _ (omega arith) c.loop-i-test.true c.in-ok-cells.ensures.draws
+      row_more c.loop-i.cells _ _ _ _ (omega arith) c.loop-i-test.true c.in_ok-cells.ensures.draws
           ∙ c.loop-i.invariant.0,
       length-set _ _ _ ∙ c.loop-i.invariant.1,
     )
@@ -38,10 +38,15 @@ whole c =
     ∙ ap (λ n. behind (take (n + c.loop-i.i) cells) rest) (sym c.cells-first.ensures)
     ∙ c.loop-i.invariant.0
 
-pub invariant-of-result : goal.invariant-of-result
-invariant-of-result c =
+pub invariant_of-result : goal.invariant_of-result
+invariant_of-result c =
     let p = c.args.self.now in
-    (p.wide, (omega arith, (c.loop-i.invariant.1, (row_lettered _ _ c.args.row.now p.lettered (whole c), tt))))
+    record {
+      wide = p.wide;
+      high = omega arith;
+      filled = c.loop-i.invariant.1;
+      lettered = row_lettered _ _ c.args.row.now p.lettered (whole c);
+    }
 
 pub returns : goal.returns
 returns c =

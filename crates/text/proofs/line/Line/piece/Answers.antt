@@ -3,7 +3,7 @@ use Rattle.text.specs.declared.pieces.Token.{Token}
 use Rattle.text.specs.Pieces.{Said, said}
 use Rattle.text.proofs.Scanning.{at_end, at_open, at_close, at_blank, at_run}
 use Rattle.text.proofs.line.Line.piece.Goals as goal
-use Rattle.text.proofs.line.Line.piece.Goals.{in-40, in-41, in-default}
+use Rattle.text.proofs.line.Line.piece.Goals.{in-40, in-41, in_default}
 
 abbrev says : List ℕ → Token × ℕ → Option (Said × List ℕ)
 says t p = Some (said p.0, drop p.1 t)
@@ -33,13 +33,13 @@ returns c =
             says = ap (says t) w.end-is ∙ at_close t at inside w.in-41.is;
             lies = (refl, record { same = refl; on = omega arith; inside = omega arith });
           }
-      | in-default w ↦
-          let on : end ≡ w.run-end-end.result = ap (λ p. p.1) w.end-is in
-          let ran = w.run-end-end.ensures in
+      | in_default w ↦
+          let on : end ≡ w.run_end-end.result = ap (λ p. p.1) w.end-is in
+          let ran = w.run_end-end.ensures in
           record {
             says =
-                ap (says t) w.end-is ∙ ap (λ s. Some (s, drop w.run-end-end.result t)) w.token-of.ensures
-                ∙ at_run t at w.run-end-end.result inside (λ e. omega arith) (λ e. omega arith) (λ e. omega arith) ran.ends;
+                ap (says t) w.end-is ∙ ap (λ s. Some (s, drop w.run_end-end.result t)) w.token_of.ensures
+                ∙ at_run t at w.run_end-end.result inside (λ e. omega arith) (λ e. omega arith) (λ e. omega arith) ran.ends;
             lies = (refl, record { same = refl; on = omega arith; inside = omega arith });
           }
     ]
