@@ -1,6 +1,6 @@
 -- A position is finished exactly where on some goal place every atom is wanted. Assumes nothing.
 use Rattle.std.proofs.Common.{◌≡◌, ℕ, ◌+◌, ◌<◌, ◌≤◌, Bool, true, false, ◌||◌, List, length, get_or, take, drop, Decides, sym, refl, ap, ◌∙◌, subst}
-use Rattle.std.proofs.lemmas.List.Elements.{Contains-get_or}
+use Rattle.std.proofs.lemmas.List.Elements.{Contains-get_or, at_from_Contains}
 use Rattle.std.proofs.lemmas.List.{at_drop_more, at_drop_all, get_or-take}
 use Rattle.std.proofs.lemmas.Bool.Decides.{Decides-by_or, Decides-like}
 use Rattle.molecules.specs.Below.{every_below}
@@ -77,6 +77,6 @@ module _ (l : Atoms) (p : Position) where
         let on = (lists (get_or places found.0 0)).0 (Contains-get_or places found.0 0 found.1) in
         record { place = get_or places found.0 0; inside = on.0; goal = on.1; fits = found.2 0 })
         (λ f.
-        let at = (lists f.place).1 (f.inside, f.goal) in
+        let at = at_from_Contains places f.place ((lists f.place).1 (f.inside, f.goal)) in
         (at.0, at.1, λ d. subst AllWanted (sym (at.2 d)) f.fits))
         (Decides-by_or (fits l p) AllWanted (some_fit l p) fits_exactly refl (λ _ _. refl) places)

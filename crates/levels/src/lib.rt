@@ -1,5 +1,6 @@
 //! Levels of every kind: a text's first line tells which.
 #![tactic(auto)]
+
 ghost use Rattle.std.specs.Prelude.{◌≡◌};
 ghost use Rattle.levels.specs.Levels.{says_atoms, read_level, told, ReadsExactly};
 

@@ -1,10 +1,8 @@
 -- The numbers below a bound that pass a test, and the list of goal places. Assumes nothing.
 use Rattle.std.proofs.Common.{◌≡◌, ℕ, zero, suc, ◌+◌, ◌<◌, ◌≤◌, Bool, true, false, cond, List, [], ◌∷◌, ◌++◌, length, take, set, Contains, filter, sym, ap, ◌∙◌, subst, append-nil, add-one, arith, length-set}
-use Rattle.std.specs.List.{AllByRecursion as All}
-use Rattle.std.specs.List.{range_with_len}
+use Rattle.std.specs.List.{All, range_with_len}
 use Rattle.std.proofs.lemmas.List.FromFn.{length-range_with_len, get_or-range_with_len, map-range_with_len_more}
-use Rattle.std.proofs.lemmas.List.Elements.{All-contains, All-filter, filter-append, filter_passes, Contains-append_left, Contains-push}
-use Rattle.std.proofs.ByRecursion.{All-from_get_or}
+use Rattle.std.proofs.lemmas.List.Elements.{All-from_get_or, All-contains, All-filter, filter-append, filter_passes, Contains-append_left, Contains-push}
 use Rattle.std.proofs.lemmas.List.{map-id, take_more_set}
 use Rattle.std.proofs.lemmas.Bool.{cond-true, cond-false}
 use Rattle.pictures.specs.Pictures.{Shape}

@@ -12,7 +12,7 @@ use Rattle.pictures.proofs.Drawn.{never, parts}
 use Rattle.molecules.specs.Atoms.{is_wall, Unwalled, any_wall}
 
 -- `contains` says whether a character draws a wall
-pub wall_found : (row : List ℕ) (r : Bool) → IsAnyAnswer (λ y t. Decides t (y ≡ 35)) row r → r ≡ any_wall row
+pub wall_found : (row : List ℕ) (r : Bool) → IsAnyAnswer (λ y t. eqb y 35 ≡ t) row r → r ≡ any_wall row
 wall_found row r found =
     same_from_decides r (any_wall row) (contains_decides eqb Decides-eqb row 35 r found)
     (Decides-by_or (λ c. eqb c 35) (λ c. c ≡ 35) any_wall (λ c. Decides-eqb c 35) refl (λ _ _. refl) row)

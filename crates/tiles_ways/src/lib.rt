@@ -1,5 +1,6 @@
 //! How moves of tile levels are written: `(move up)` sends the blank up.
 #![tactic(auto)]
+
 ghost use Rattle.std.specs.Prelude.{◌≡◌};
 ghost use Rattle.pen.specs.Ink.{ink, Inked};
 ghost use Rattle.tiles.specs.Level.{tiles};

@@ -1,5 +1,6 @@
 //! Ways: the judge of written ways and the writer of ways, for every kind of level.
 #![tactic(auto)]
+
 mod judging;
 mod kind;
 mod writing;

@@ -14,24 +14,24 @@ use Rattle.tiles_text.proofs.reader.read_level.Goals.{In-Some}
 here : (c : In-Some) → Found c.args.text.now c.loop-line.at c.in-Some.line
 here c = line_found _ _ _ c.in-Some.ensures
 
-pub returns-then-not-is-text : goal.returns-then-not-is-text
-returns-then-not-is-text c = record { reads = search rules; exactly = reads_exactly _ }
+pub returns-then-not-is_text : goal.returns-then-not-is_text
+returns-then-not-is_text c = record { reads = search rules; exactly = reads_exactly _ }
 
-pub returns-in-err-take : goal.returns-in-err-take
-returns-in-err-take c =
-    let p = err_from_is_err_and c.from-residual.result c.from-residual.ensures.1 in
+pub returns-in_err-take : goal.returns-in_err-take
+returns-in_err-take c =
+    let p = err_from_is_err_and c.from_residual.result c.from_residual.ensures.1 in
     record {
       reads =
           ap told (p.1 ∙ ap Err p.2)
-          ∙ ap (concluded finish) (line_refused taken finish head _ _ _ _ c.loop-line.invariant.0 _ (here (goal.at.returns-in-err-take c).In-Some) _ c.in-err-take.ensures.0)
-          ∙ read_text_lem taken finish head (refusal NotText 0) c.args.text.now (sym c.is-text.ensures ∙ c.if-not-is-text.false);
+          ∙ ap (concluded finish) (line_refused taken finish head _ _ _ _ c.loop-line.invariant.0 _ (here (goal.at.returns-in_err-take c).In-Some) _ c.in_err-take.ensures.0)
+          ∙ read_text_lem taken finish head (refusal NotText 0) c.args.text.now (sym c.is_text.ensures ∙ c.if-not-is_text.false);
       exactly = reads_exactly _;
     }
 
 pub loop-line-preserved : goal.loop-line-preserved
 loop-line-preserved c =
     let line = here (goal.at.loop-line-preserved c).In-Some in
-    let took = c.in-ok-take.ensures in (
+    let took = c.in_ok-take.ensures in (
       line_taken taken finish head _ _ _ _ c.loop-line.invariant.0 c.in-Some.line line (view c.take.new.self) took.0,
       took.1,
       omega arith,
@@ -48,7 +48,7 @@ pub returns : goal.returns
 returns c = record {
   reads =
       c.finish.ensures
-      ∙ lines_end taken finish head _ _ _ _ c.loop-line.invariant.0 (line_missing _ _ c.in-default.ensures)
-      ∙ read_text_lem taken finish head (refusal NotText 0) c.args.text.now (sym c.is-text.ensures ∙ c.if-not-is-text.false);
+      ∙ lines_end taken finish head _ _ _ _ c.loop-line.invariant.0 (line_missing _ _ c.in_default.ensures)
+      ∙ read_text_lem taken finish head (refusal NotText 0) c.args.text.now (sym c.is_text.ensures ∙ c.if-not-is_text.false);
   exactly = reads_exactly _;
 }

@@ -11,8 +11,8 @@ loop-init c = simp unary_clauses ((λ _ w. w), refl, refl)
 
 pub loop-preserved : goal.loop-preserved
 loop-preserved c = (
-  leads_more (leads_more (leads_as (spaced_more _ _ _ c.loop-test.true) c.loop.invariant.0) c.put-in-loop.ensures.wrote) c.put-decimal.ensures.wrote,
-  c.put-decimal.ensures.same ∙ c.put-in-loop.ensures.same ∙ c.loop.invariant.1,
+  leads_more (leads_more (leads_as (spaced_more _ _ _ c.loop-test.true) c.loop.invariant.0) c.put-in-loop.ensures.wrote) c.put_decimal.ensures.wrote,
+  c.put_decimal.ensures.same ∙ c.put-in-loop.ensures.same ∙ c.loop.invariant.1,
   past_more _ _ _ c.loop-test.true ∙ c.loop.invariant.2,
 )
 

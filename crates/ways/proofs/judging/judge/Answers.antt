@@ -23,14 +23,14 @@ loop-line-init g c =
       omega arith,
     )
 
-pub returns-in-err-take-line : goal.returns-in-err-take-line
-returns-in-err-take-line g c =
+pub returns-in_err-take_line : goal.returns-in_err-take_line
+returns-in_err-take_line g c =
     let k = g.K.Kind.notation c.args.kind.now in
     let t = c.args.text.now in
     let inv = c.loop-line.invariant in
     let found = line_found t c.loop-line.at c.in-Some.line c.in-Some.ensures in
-    let p = err_from_is_err_and c.from-residual.result c.from-residual.ensures.1 in
-    let step = ap (taken k c.loop-line.progress c.loop-line.number) (sym found.whole) ∙ c.in-err-take-line.ensures inv.1 in
+    let p = err_from_is_err_and c.from_residual.result c.from_residual.ensures.1 in
+    let step = ap (taken k c.loop-line.progress c.loop-line.number) (sym found.whole) ∙ c.in_err-take_line.ensures inv.1 in
     record {
       answers =
           p.1 ∙ ap Err p.2
@@ -45,12 +45,12 @@ loop-line-preserved g c =
     let t = c.args.text.now in
     let inv = c.loop-line.invariant in
     let found = line_found t c.loop-line.at c.in-Some.line c.in-Some.ensures in
-    let took = c.in-ok-take-line.ensures inv.1 in
+    let took = c.in_ok-take_line.ensures inv.1 in
     let step = ap (taken k c.loop-line.progress c.loop-line.number) (sym found.whole) ∙ took in
-    let kept = taken_kept k (g.met.K.Kind.lawful c.args.kind.now) c.loop-line.progress c.take-line.new.progress c.loop-line.number _ inv.1 took in
+    let kept = taken_kept k (g.met.K.Kind.lawful c.args.kind.now) c.loop-line.progress c.take_line.new.progress c.loop-line.number _ inv.1 took in
     let long = found.long in
     let ended = found.ended in (
-      ap (λ n. read_lines (taken k) c.take-line.new.progress (c.loop-line.number + 1) (split (drop (n + 1) t))) long
+      ap (λ n. read_lines (taken k) c.take_line.new.progress (c.loop-line.number + 1) (split (drop (n + 1) t))) long
           ∙ sym (read_step (taken k) c.loop-line.progress c.loop-line.number t c.loop-line.at _ ended step) ∙ inv.0,
       kept.0,
       omega arith,
@@ -65,7 +65,7 @@ returns g c =
     let t = c.args.text.now in
     let at = c.loop-line.at in
     let inv = c.loop-line.invariant in
-    let over = line_missing t at c.in-default.ensures in
+    let over = line_missing t at c.in_default.ensures in
     record {
       answers =
           c.conclude.ensures inv.1 ∙ ap (finished k c.loop-line.progress c.loop-line.number) (empty_at t at _ (length-drop at t))

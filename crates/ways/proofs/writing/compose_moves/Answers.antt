@@ -21,16 +21,16 @@ loop-number-init g c =
     )
 
 -- a closed move among those that were all found open
-pub returns-then-not-play-on : goal.returns-then-not-play-on
-returns-then-not-play-on g c =
+pub returns-then-not-play_on : goal.returns-then-not-play_on
+returns-then-not-play_on g c =
     let k = g.K.Kind.notation c.args.kind.now in
     let i = c.loop-number.number-index in
     let inv = c.loop-number.invariant in
-    let shut = played_closed _ _ _ (c.if-not-play-on.ensures inv.1) in
+    let shut = played_closed _ _ _ (c.if-not-play_on.ensures inv.1) in
     let stops = sym (played_more k c.loop-number.position (i + 2) c.args.moves.now i _ c.loop-number-test.true shut) ∙ inv.0 in
     record {
       wrote = λ all. absurd (clash tt _ (ap (checked_as k) stops ∙ all));
-      same = c.put.ensures.same ∙ c.write-move.ensures.same ∙ inv.3;
+      same = c.put.ensures.same ∙ c.write_move.ensures.same ∙ inv.3;
     }
 
 pub loop-number-preserved : goal.loop-number-preserved
@@ -39,21 +39,21 @@ loop-number-preserved g c =
     let ms = c.args.moves.now in
     let i = c.loop-number.number-index in
     let p = c.loop-number.position in
-    let q = c.play-on.new.position in
+    let q = c.play_on.new.position in
     let inv = c.loop-number.invariant in
     let next : i + 1 + 2 ≡ i + 2 + 1 = omega arith in
-    let on = played_open _ _ _ (c.if-not-play-on.ensures inv.1) in
+    let on = played_open _ _ _ (c.if-not-play_on.ensures inv.1) in
     let leads = opened_open k p q (get_or ms i 0) on in
     let line = k.line p (get_or ms i 0) in (
       ap (λ n. played_from k q n (drop (i + 1) ms)) next ∙ sym (played_more k p (i + 2) ms i _ c.loop-number-test.true on) ∙ inv.0,
       opened_reached k p q (get_or ms i 0) inv.1 on,
       (
         (inv.2.0 ++ line) ++ (10 ∷ []),
-        inked_more (inked_more inv.2.1 (c.write-move.ensures.wrote inv.1 q leads.leads)) c.put.ensures.wrote,
+        inked_more (inked_more inv.2.1 (c.write_move.ensures.wrote inv.1 q leads.leads)) c.put.ensures.wrote,
         line_more inv.2.0 line (join_lines (move_lines k q (drop (i + 1) ms)))
             ∙ ap (λ x. inv.2.0 ++ join_lines x) (sym (lines_more k p ms i _ c.loop-number-test.true on)) ∙ inv.2.2,
       ),
-      c.put.ensures.same ∙ c.write-move.ensures.same ∙ inv.3,
+      c.put.ensures.same ∙ c.write_move.ensures.same ∙ inv.3,
     )
 
 pub returns : goal.returns

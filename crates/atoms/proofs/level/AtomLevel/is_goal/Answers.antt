@@ -24,8 +24,8 @@ pub returns-after-places : goal.returns-after-places
 returns-after-places c =
     let l = atoms c.args.self.now in
     let p = c.args.position.now in
-    let none = none_all l p c.as-slice-place-items.result.now c.places.place-index c.places-test.false c.places.invariant.1 in
-    let says : c.places.found ≡ finished l p = c.places.invariant.0 ∙ sym none ∙ ap (some_fit l p) (c.as-slice-place-items.ensures ∙ c.args.self.now.placed) in
+    let none = none_all l p c.as_slice-place-items.result.now c.places.place-index c.places-test.false c.places.invariant.1 in
+    let says : c.places.found ≡ finished l p = c.places.invariant.0 ∙ sym none ∙ ap (some_fit l p) (c.as_slice-place-items.ensures ∙ c.args.self.now.placed) in
     record {
       says = says;
       decides = Decides-at _ _ says (finished_exactly l p (some_wide c.args.self.now.molecule.picture));
@@ -37,7 +37,7 @@ returns-after-loop-atom c =
     let p = c.args.position.now in
     let all : count l ≡ c.loop-atom.atom = omega (arith, c.args.self.now.counted) in
     let some = some_here l p _ _ c.places-test.true c.places.invariant.1 (fits_all l p _ _ all c.loop-atom.invariant) in
-    let says : true ≡ finished l p = sym some ∙ ap (some_fit l p) (c.as-slice-place-items.ensures ∙ c.args.self.now.placed) in
+    let says : true ≡ finished l p = sym some ∙ ap (some_fit l p) (c.as_slice-place-items.ensures ∙ c.args.self.now.placed) in
     record {
       says = says;
       decides = Decides-at _ _ says (finished_exactly l p (some_wide c.args.self.now.molecule.picture));

@@ -5,20 +5,20 @@ use Rattle.atoms.specs.Level.{atoms, count}
 use Rattle.atoms.proofs.Sliding.{played_open, played_closed, moved_by, moves_exactly}
 use Rattle.atoms.proofs.level.AtomLevel.play.Goals as goal
 
-pub returns-in-default-slide : goal.returns-in-default-slide
-returns-in-default-slide c =
+pub returns-in_default-slide : goal.returns-in_default-slide
+returns-in_default-slide c =
     let l = atoms c.args.self.now in
     let p = c.args.position.now in
     let m = c.args.number in
     let there : m / 4 < count l = omega (arith, c.args.self.now.counted) in
-    let none = moved_by l p m _ _ _ _ there c.in-Some.ensures.named c.grid.ensures c.blocked-blocked.ensures c.in-default-slide.ensures.rests in
+    let none = moved_by l p m _ _ _ _ there c.in-Some.ensures.named c.grid.ensures c.blocked-blocked.ensures c.in_default-slide.ensures.rests in
     record {
       plays = played_closed _ _ none;
       exactly = moves_exactly l (omega (arith, c.args.self.now.counted)) p m;
     }
 
-pub overflow-cast-into : goal.overflow-cast-into
-overflow-cast-into c =
+pub overflow_cast-into : goal.overflow_cast-into
+overflow_cast-into c =
     let inside = slid_inside _ _ _ _ _ _ (sym c.in-Some-slide.ensures.rests) in
     let small = cell_small c.args.self.now.board _ _ _ c.grid.ensures refl inside in
     omega (arith, small)

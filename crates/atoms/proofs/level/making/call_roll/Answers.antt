@@ -5,7 +5,7 @@ use Rattle.molecules.proofs.Counts.{cells_of, cell_small}
 use Rattle.atoms.specs.Board.{label_of}
 use Rattle.atoms.proofs.Roll.{no_atom, call_room, call_one, call_none, call_all}
 use Rattle.atoms.proofs.level.making.call_roll.Goals as goal
-use Rattle.atoms.proofs.level.making.call_roll.Goals.{in-Atom, in-default}
+use Rattle.atoms.proofs.level.making.call_roll.Goals.{in-Atom, in_default}
 
 -- there is room for the atom on this cell
 room : (c : goal.In-Atom) → c.loop-place.count < 16
@@ -17,15 +17,15 @@ room c =
 pub bounds-labels-count : goal.bounds-labels-count
 bounds-labels-count c = room c
 
-pub overflow-cast-cells : goal.overflow-cast-cells
-overflow-cast-cells c =
+pub overflow_cast-cells : goal.overflow_cast-cells
+overflow_cast-cells c =
     omega (arith, cell_small c.args.board.now _ _ _ c.grid.ensures c.cells-place-end.ensures c.loop-place-test.true)
 
 pub bounds-cells-count : goal.bounds-cells-count
 bounds-cells-count c = room c
 
-pub overflow-add-count : goal.overflow-add-count
-overflow-add-count c = omega (arith, room c)
+pub overflow_add-count : goal.overflow_add-count
+overflow_add-count c = omega (arith, room c)
 
 pub loop-place-preserved : goal.loop-place-preserved
 loop-place-preserved c =
@@ -37,8 +37,8 @@ loop-place-preserved c =
           let one = ap is_atom here in
           let room = call_room (shape p) _ _ _ _ c.loop-place.invariant c.requires (omega arith) one in
           rw (w.labels-is, w.cells-is, w.count-is) (call_one (shape p) _ _ _ _ c.loop-place.invariant _ room one (sym (ap label_of here)))
-      | in-default w ↦
-          rw (w.labels-is, w.cells-is, w.count-is) (call_none (shape p) _ _ _ _ c.loop-place.invariant (ap is_atom (sym c.cell.ensures) ∙ no_atom _ w.in-default.not-Atom))
+      | in_default w ↦
+          rw (w.labels-is, w.cells-is, w.count-is) (call_none (shape p) _ _ _ _ c.loop-place.invariant (ap is_atom (sym c.cell.ensures) ∙ no_atom _ w.in_default.not-Atom))
     ]
 
 pub returns : goal.returns

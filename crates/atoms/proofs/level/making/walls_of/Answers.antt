@@ -4,10 +4,10 @@ use Rattle.molecules.specs.Atoms.{is_wall}
 use Rattle.molecules.proofs.Counts.{cells_of, cell_small}
 use Rattle.atoms.proofs.Walls.{no_wall, walled_one, walled_none, walled_all}
 use Rattle.atoms.proofs.level.making.walls_of.Goals as goal
-use Rattle.atoms.proofs.level.making.walls_of.Goals.{in-Wall, in-default}
+use Rattle.atoms.proofs.level.making.walls_of.Goals.{in-Wall, in_default}
 
-pub overflow-cast-place : goal.overflow-cast-place
-overflow-cast-place c =
+pub overflow_cast-place : goal.overflow_cast-place
+overflow_cast-place c =
     omega (arith, cell_small c.args.board.now _ _ _ c.grid.ensures c.cells-place-end.ensures c.loop-place-test.true)
 
 pub loop-place-preserved : goal.loop-place-preserved
@@ -17,8 +17,8 @@ loop-place-preserved c =
     elim c.match-cell.branch [
       | in-Wall w ↦
           rw w.walls-is (walled_one (shape p) _ _ _ c.loop-place.invariant (omega arith) (ap is_wall (sym w.in-Wall.ensures)) w.insert.ensures)
-      | in-default w ↦
-          rw w.walls-is (walled_none (shape p) _ _ c.loop-place.invariant (omega arith) (ap is_wall (sym c.cell.ensures) ∙ no_wall _ w.in-default.not-Wall))
+      | in_default w ↦
+          rw w.walls-is (walled_none (shape p) _ _ c.loop-place.invariant (omega arith) (ap is_wall (sym c.cell.ensures) ∙ no_wall _ w.in_default.not-Wall))
     ]
 
 pub returns : goal.returns

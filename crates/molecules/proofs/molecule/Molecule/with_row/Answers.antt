@@ -7,4 +7,4 @@ pub invariant_of-result : goal.invariant_of-result
 invariant_of-result c =
     let m = c.args.self.now in
     let none = sym c.draws_wall.ensures ∙ c.if-draws_wall.false in
-    (unwalled_row (wanted m) _ _ m.unwalled none c.in_ok-picture.ensures, tt)
+    record { unwalled = unwalled_row (wanted m) _ _ m.unwalled none c.in_ok-picture.ensures }

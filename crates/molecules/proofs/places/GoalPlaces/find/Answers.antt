@@ -36,7 +36,7 @@ loop-place-preserved c =
 pub invariant_of-result : goal.invariant_of-result
 invariant_of-result c =
     let long = cells_of c.args.board.now _ _ c.grid.ensures c.cells-place-end.ensures in
-    (omega (arith, cells_few c.args.board.now), (c.loop-place.invariant.2, tt))
+    record { counted = omega (arith, cells_few c.args.board.now); full = c.loop-place.invariant.2 }
 
 pub returns : goal.returns
 returns c =

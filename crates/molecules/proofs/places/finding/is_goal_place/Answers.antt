@@ -6,7 +6,7 @@ use Rattle.molecules.specs.Places.{is_place}
 use Rattle.molecules.proofs.Counts.{cells_of, cell_small}
 use Rattle.molecules.proofs.Fitting.{lies_no_atom, lies_no_wall, lies_not, lies_all}
 use Rattle.molecules.proofs.places.finding.is_goal_place.Goals as goal
-use Rattle.molecules.proofs.places.finding.is_goal_place.Goals.{else-is-atom-via-then-is-atom+else-is_wall, else-is-atom-via-else-is-atom}
+use Rattle.molecules.proofs.places.finding.is_goal_place.Goals.{else-is_atom-via-then-is_atom+else-is_wall, else-is_atom-via-else-is_atom}
 
 pub under-requires : goal.under-requires
 under-requires c =
@@ -27,9 +27,9 @@ loop-i-preserved c =
     let b = shape c.args.board.now in
     let m = shape c.picture-picture.result in
     elim c.else-is_atom.branch [
-      | else-is-atom-via-then-is-atom+else-is_wall w ↦
+      | else-is_atom-via-then-is_atom+else-is_wall w ↦
           lies_no_wall b m _ _ c.loop-i.invariant (ap is_wall (sym w.under.ensures) ∙ sym w.is_wall.ensures ∙ w.if-is_wall.false)
-      | else-is-atom-via-else-is-atom w ↦
+      | else-is_atom-via-else-is_atom w ↦
           lies_no_atom b m _ _ c.loop-i.invariant (ap is_atom (sym c.cell.ensures) ∙ sym c.is_atom.ensures ∙ w.if-is_atom.false)
     ]
 

@@ -8,11 +8,11 @@ at_row : (c : In-Some) → TakesRow c.args.self.now c.args.number c.in-Rows-Row.
 at_row c =
     takes_row _ _ _ _ _ (bytes c.in-Rows-Row.row) c.in-Rows-Row.is-0 c.requires c.in-Rows-Row.ensures c.in-Some.ensures
 
-pub overflow-shl-self : goal.overflow-shl-self
-overflow-shl-self c = (at_row c).shift
+pub overflow_shl-self : goal.overflow_shl-self
+overflow_shl-self c = (at_row c).shift
 
-pub overflow-add-self : goal.overflow-add-self
-overflow-add-self c = omega (arith, (at_row c).ranges)
+pub overflow_add-self : goal.overflow_add-self
+overflow_add-self c = omega (arith, (at_row c).fits)
 
 pub returns-after-left-eq1 : goal.returns-after-left-eq1
 returns-after-left-eq1 c =
