@@ -1,5 +1,6 @@
 //! Atom levels as text: reading one, with a refusal by number and line, and writing one.
 #![tactic(auto)]
+
 mod reader;
 mod writer;
 

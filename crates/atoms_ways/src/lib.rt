@@ -1,5 +1,6 @@
 //! How moves of atom levels are written: `(move 0 2 right)` slides the atom on row 0 and column 2 to the right.
 #![tactic(auto)]
+
 ghost use Rattle.std.specs.Prelude.{◌≡◌, ◌<◌};
 ghost use Rattle.pen.specs.Ink.{ink, Inked};
 ghost use Rattle.text.specs.Lines.{bytes};

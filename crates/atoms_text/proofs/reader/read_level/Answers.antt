@@ -14,24 +14,24 @@ use Rattle.atoms_text.proofs.reader.read_level.Goals.{In-Some}
 here : (c : In-Some) → Found c.args.text.now c.loop-line.at c.in-Some.line
 here c = line_found _ _ _ c.in-Some.ensures
 
-pub returns-then-not-is-text : goal.returns-then-not-is-text
-returns-then-not-is-text c = record { reads = search rules; exactly = reads_exactly _ }
+pub returns-then-not-is_text : goal.returns-then-not-is_text
+returns-then-not-is_text c = record { reads = search rules; exactly = reads_exactly _ }
 
-pub returns-in-err-reader : goal.returns-in-err-reader
-returns-in-err-reader c =
-    let p = err_from_is_err_and c.from-residual.result c.from-residual.ensures.1 in
+pub returns-in_err-reader : goal.returns-in_err-reader
+returns-in_err-reader c =
+    let p = err_from_is_err_and c.from_residual.result c.from_residual.ensures.1 in
     record {
       reads =
           ap told (p.1 ∙ ap Err p.2)
-          ∙ ap (concluded finish) (line_refused taken finish head _ _ _ _ c.loop-line.invariant.0 _ (here (goal.at.returns-in-err-reader c).In-Some) _ (sym c.in-err-reader.ensures))
-          ∙ read_text_lem taken finish head (refusal NotText 0) c.args.text.now (sym c.is-text.ensures ∙ c.if-not-is-text.false);
+          ∙ ap (concluded finish) (line_refused taken finish head _ _ _ _ c.loop-line.invariant.0 _ (here (goal.at.returns-in_err-reader c).In-Some) _ (sym c.in_err-reader.ensures))
+          ∙ read_text_lem taken finish head (refusal NotText 0) c.args.text.now (sym c.is_text.ensures ∙ c.if-not-is_text.false);
       exactly = reads_exactly _;
     }
 
 pub loop-line-preserved : goal.loop-line-preserved
 loop-line-preserved c =
     let line = here (goal.at.loop-line-preserved c).In-Some in (
-      line_taken taken finish head _ _ _ _ c.loop-line.invariant.0 c.in-Some.line line (view c.in-ok-reader.reader) (sym c.in-ok-reader.ensures),
+      line_taken taken finish head _ _ _ _ c.loop-line.invariant.0 c.in-Some.line line (view c.in_ok-reader.reader) (sym c.in_ok-reader.ensures),
       omega arith,
       omega (arith, line.long),
       omega (arith, line.long, line.ended),
@@ -46,7 +46,7 @@ pub returns : goal.returns
 returns c = record {
   reads =
       c.finish.ensures
-      ∙ lines_end taken finish head _ _ _ _ c.loop-line.invariant.0 (line_missing _ _ c.in-default.ensures)
-      ∙ read_text_lem taken finish head (refusal NotText 0) c.args.text.now (sym c.is-text.ensures ∙ c.if-not-is-text.false);
+      ∙ lines_end taken finish head _ _ _ _ c.loop-line.invariant.0 (line_missing _ _ c.in_default.ensures)
+      ∙ read_text_lem taken finish head (refusal NotText 0) c.args.text.now (sym c.is_text.ensures ∙ c.if-not-is_text.false);
   exactly = reads_exactly _;
 }

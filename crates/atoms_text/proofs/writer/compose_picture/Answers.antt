@@ -15,8 +15,8 @@ loop-row-init c = (leads_start (lines_start _ _), refl)
 pub loop-row-preserved : goal.loop-row-preserved
 loop-row-preserved c =
     let inside : c.loop-row.row < (shape c.args.picture.now).height = omega (arith, high (goal.at.loop-row-preserved c).After-grid-row-end) in (
-      leads_more (leads_as (lines_more _ _ _ inside) c.loop-row.invariant.0) c.compose-row.ensures.wrote,
-      c.compose-row.ensures.same ∙ c.loop-row.invariant.1,
+      leads_more (leads_as (lines_more _ _ _ inside) c.loop-row.invariant.0) c.compose_row.ensures.wrote,
+      c.compose_row.ensures.same ∙ c.loop-row.invariant.1,
     )
 
 pub returns : goal.returns

@@ -6,9 +6,9 @@ use Rattle.atoms_text.proofs.Inking.{answered, answered_count}
 use Rattle.atoms_text.proofs.RoundTrip.{reads_back}
 use Rattle.atoms_text.proofs.writer.write_level.Goals as goal
 
-pub returns-then-is-over : goal.returns-then-is-over
-returns-then-is-over c =
-    let r = refused c.args.out.now c.dry-measure.ensures c.compose.ensures.wrote c.if-is-over.ensures in
+pub returns-then-is_over : goal.returns-then-is_over
+returns-then-is_over c =
+    let r = refused c.args.out.now c.dry-measure.ensures c.compose.ensures.wrote c.if-is_over.ensures in
     record {
       after = r.0;
       answers = ap answered r.1 ∙ answered_count (atoms c.args.level.now) c.args.out.now;
@@ -17,7 +17,7 @@ returns-then-is-over c =
 
 pub returns : goal.returns
 returns c =
-    let r = finished c.args.out.now c.dry-measure.ensures c.compose.ensures.wrote c.if-is-over.ensures c.new-pen.ensures.fresh c.compose-2.ensures.wrote c.room.ensures in
+    let r = finished c.args.out.now c.dry-measure.ensures c.compose.ensures.wrote c.if-is_over.ensures c.new-pen.ensures.fresh c.compose-2.ensures.wrote c.room.ensures in
     record {
       after = search rules;
       answers = ap answered r.1 ∙ answered_count (atoms c.args.level.now) c.args.out.now;
