@@ -1,5 +1,6 @@
 //! The judgement of a written way for a level, from text to text.
 #![tactic(auto)]
+
 ghost use Rattle.std.specs.Prelude.{◌≡◌, IfOk, string_bytes};
 ghost use Rattle.judgement.specs.Judgement.{judged_texts, JudgesExactly, report_text};
 
