@@ -7,9 +7,8 @@ use Rattle.std.proofs.lemmas.Bool.Decides.{nat_tests}
 use Rattle.refusals.specs.declared.Refusal.{Refusal}
 use Rattle.text.proofs.Cases.{never, clash}
 use Rattle.text.proofs.Texts.{leading_all}
-use Rattle.words.specs.Words.{◌then◌}
-use Rattle.forms.specs.Forms.{inside, closing, Content}
-use Rattle.words.proofs.Laws.{first_step}
+use Rattle.forms.specs.Forms.{◌then◌, inside, closing, Content}
+use Rattle.forms.proofs.Words.{first_step}
 use Rattle.pictures.specs.declared.cell.Cell.{Cell}
 use Rattle.pictures.specs.Cells.{symbol_of, lettered, Lettered}
 use Rattle.pictures.specs.Pictures.{Shape, shape_of, blank, with_row}

@@ -5,8 +5,7 @@ use Rattle.refusals.specs.declared.Fault.TheVariants.{NotText, LineForm, BoardSi
 use Rattle.refusals.specs.declared.Refusal.{Refusal}
 use Rattle.refusals.specs.Refusals.{refusal}
 use Rattle.text.specs.Lines.{read_text}
-use Rattle.words.specs.Words.{◌then◌}
-use Rattle.forms.specs.Forms.{size_of, content_of, is_closing}
+use Rattle.forms.specs.Forms.{◌then◌, size_of, content_of, is_closing}
 use Rattle.pictures.specs.Pictures.{Shape, shape_of, blank, with_row}
 use Rattle.molecules.specs.Atoms.{with_want}
 use Rattle.atoms.specs.declared.level.AtomLevel.{AtomLevel}

@@ -2,8 +2,7 @@
 use Rattle.std.specs.Prelude.{ℕ, ◌+◌, ◌*◌, ◌/◌, ◌%◌, cond, ◌&&◌, List, [], ◌∷◌, ◌++◌, Some, None, codes, decimal, Option, nat_lt, slice_index}
 use Rattle.grid.specs.declared.Direction.{Direction}
 use Rattle.grid.specs.Grid.{number_of, direction_of, word_of, of_word, row, column}
-use Rattle.words.specs.Words.{◌then◌, number_in, word_in}
-use Rattle.forms.specs.Forms.{last_only, arguments_of, arguments_line}
+use Rattle.forms.specs.Forms.{◌then◌, number_in, word_in, last_only, arguments_of, arguments_line}
 use Rattle.atoms.specs.declared.position.Position.{Position}
 use Rattle.atoms.specs.Level.{Atoms, game}
 use Rattle.atoms.specs.Moves.{atom_at}

@@ -13,9 +13,8 @@ use Rattle.text.specs.Lines.{in_line, OneLine}
 use Rattle.text.specs.Pieces.{Keyword}
 use Rattle.text.proofs.Numbers.{own}
 use Rattle.text.proofs.Whole.{Whole, whole_append, whole_digits}
-use Rattle.words.specs.Words.{◌then◌, number_in}
-use Rattle.forms.specs.Forms.{inside, closing, Arguments}
-use Rattle.words.proofs.Laws.{number_reads}
+use Rattle.forms.specs.Forms.{◌then◌, number_in, inside, closing, Arguments}
+use Rattle.forms.proofs.Words.{number_reads}
 use Rattle.forms.proofs.Laws.{forms_hold}
 use Rattle.atoms_ways.specs.declared.AtomMove.{AtomMove}
 use Rattle.atoms_ways.specs.Moves.{move_of, short, direction_in, move_in, move_text}

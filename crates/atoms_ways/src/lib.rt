@@ -40,9 +40,9 @@ pub struct AtomKind(pub AtomLevel);
 fn read_line(line: Line) -> Option<AtomMove>
     ensures { result ≡ move_in (bytes line.entry) }
 {
-    let (row, rest) = words::number(forms::arguments(line, b"move")?)?;
-    let (column, rest) = words::number(rest)?;
-    let (spelled, rest) = words::word(rest)?;
+    let (row, rest) = forms::number(forms::arguments(line, b"move")?)?;
+    let (column, rest) = forms::number(rest)?;
+    let (spelled, rest) = forms::word(rest)?;
     if !rest.is_empty() || row >= THREE_DIGITS || column >= THREE_DIGITS {
         return None;
     }

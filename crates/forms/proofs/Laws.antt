@@ -5,9 +5,8 @@ use Rattle.std.proofs.lemmas.List.{take-append-drop, take_at, drop_more, drop_al
 use Rattle.std.proofs.lemmas.Bool.{ltb-true, eqb-true, cond-false, ne_eqb}
 use Rattle.std.proofs.lemmas.Bool.Decides.{nat_tests}
 use Rattle.text.specs.Pieces.{Keyword}
-use Rattle.words.specs.Words.{◌then◌, after_blank, number_in, keyword_in}
-use Rattle.words.proofs.Laws.{after_blank_only, first_step, keyword_only, keyword_reads, number_only_lem, number_reads}
-use Rattle.forms.specs.Forms.{last_only, short, count_of, size_of, inside, enclosed, arguments_of, content_of, closing, count_line, size_line, arguments_line, content_line, Arguments, Content, FormsHold, ContentHolds}
+use Rattle.forms.specs.Forms.{◌then◌, after_blank, number_in, keyword_in, last_only, short, count_of, size_of, inside, enclosed, arguments_of, content_of, closing, count_line, size_line, arguments_line, content_line, Arguments, Content, FormsHold, ContentHolds}
+use Rattle.forms.proofs.Words.{after_blank_only, first_step, keyword_only, keyword_reads, number_only_lem, number_reads}
 use Rattle.text.proofs.Cases.{never, parts}
 use Rattle.text.proofs.Runs.{Stops, leading_run, leading_front}
 

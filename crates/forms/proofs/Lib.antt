@@ -1,2 +1,4 @@
+pub mod Blanks
+pub mod Words
 pub mod Laws
 pub mod Shapes

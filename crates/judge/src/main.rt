@@ -3,6 +3,7 @@
 //! LEVEL and WAY are paths, or `-` for standard input. A refusal is an ordinary answer, with status 0. Only a file or
 //! a stream that fails, want of memory, or a wrong call ends with status 1, and standard error says why.
 #![tactic(auto)]
+
 use judgement::{judge_texts, report};
 use std::io::{ErrorKind, Read, Write};
 use std::{env, fs, io};

@@ -4,10 +4,12 @@
 ghost use Rattle.std.specs.Prelude.{◌≡◌, IfOk, string_bytes};
 ghost use Rattle.judgement.specs.Judgement.{judged_texts, JudgesExactly, report_text};
 
-use atoms_ways::AtomKind;
-use levels::{Level, read_level};
+mod either;
+
+pub use either::judge_either;
 use refusals::Refusal;
 use std::alloc::{AllocError, Global};
+use tiles_text::read_level;
 use tiles_ways::TileKind;
 use ways::judge;
 
@@ -17,10 +19,8 @@ pub fn judge_texts(level_text: &[u8], way_text: &[u8]) -> Result<u32, Refusal>
     ensures answers { result ≡ judged_texts level_text.now way_text.now }
     ensures exactly { JudgesExactly level_text.now way_text.now }
 {
-    match read_level(level_text)? {
-        Level::Tiles(level) => judge(&TileKind(level), way_text),
-        Level::Atoms(level) => judge(&AtomKind(level), way_text),
-    }
+    let level = read_level(level_text)?;
+    judge(&TileKind(level), way_text)
 }
 
 /// The line that reports a judgement: `(accepted N)` or `(fault NUMBER LINE)`.

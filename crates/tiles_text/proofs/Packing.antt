@@ -6,7 +6,7 @@ use Rattle.std.proofs.lemmas.Nat.{shl_whole}
 use Rattle.std.proofs.ByRecursion.{All-append}
 use Rattle.std.proofs.lemmas.List.{length-append}
 use Rattle.std.proofs.lemmas.Bool.{cond-true, cond-false, lt-ltb, le-ltb}
-use Rattle.words.specs.Words.{◌then◌, number_in}
+use Rattle.forms.specs.Forms.{◌then◌, number_in}
 use Rattle.tiles.specs.Board.{packed, unpacked}
 use Rattle.tiles.proofs.Board.{Small, length_unpacked, small_unpacked, packed_unpacked, unpacked_packed, packed_lt, packed_append, pow_bits, shl_cell}
 use Rattle.tiles_text.specs.Reading.{numbers_in}

@@ -3,10 +3,10 @@ use Rattle.std.proofs.Common.{◌≡◌, ℕ, zero, suc, ◌<◌, ◌≤◌, Boo
 use Rattle.std.specs.List.{AllByRecursion as All}
 use Rattle.std.proofs.lemmas.List.{nil_from_length}
 use Rattle.std.proofs.lemmas.Bool.{cond-true, lt-ltb, ltb-true, eqb-true}
-use Rattle.words.specs.Words.{◌then◌, number_in}
+use Rattle.forms.specs.Forms.{◌then◌, number_in}
 use Rattle.text.proofs.Cases.{never}
 use Rattle.text.proofs.Runs.{Stops}
-use Rattle.words.proofs.Laws.{first_step, number_only_lem, number_reads}
+use Rattle.forms.proofs.Words.{first_step, number_only_lem, number_reads}
 use Rattle.tiles_text.specs.Reading.{numbers_in}
 use Rattle.tiles_text.specs.Writing.{spaced}
 

@@ -71,7 +71,7 @@ fn read_row(row: Line, grid: Grid) -> Option<u64>
     let mut tiles = 0;
     let mut rest = row;
     for column in 0..grid.width as usize {
-        let (tile, after) = words::number(rest)?;
+        let (tile, after) = forms::number(rest)?;
         if tile as usize >= grid.cells() {
             return None;
         }

@@ -2,8 +2,7 @@
 use Rattle.std.specs.Prelude.{ℕ, List, [], ◌∷◌, Some, None, codes, Option}
 use Rattle.grid.specs.declared.Direction.{Direction}
 use Rattle.grid.specs.Grid.{number_of, direction_of, word_of, of_word}
-use Rattle.words.specs.Words.{◌then◌, word_in}
-use Rattle.forms.specs.Forms.{last_only, arguments_of, arguments_line}
+use Rattle.forms.specs.Forms.{◌then◌, word_in, last_only, arguments_of, arguments_line}
 use Rattle.tiles.specs.Level.{Tiles, game}
 use Rattle.ways.specs.Kinds.{Notation}
 

@@ -56,7 +56,7 @@ impl Kind for TileKind {
     }
 
     fn read_move(&self, line: Line) -> Option<Direction> {
-        let (spelled, rest) = words::word(forms::arguments(line, b"move")?)?;
+        let (spelled, rest) = forms::word(forms::arguments(line, b"move")?)?;
         if rest.is_empty() {
             Direction::from_word(spelled)
         } else {

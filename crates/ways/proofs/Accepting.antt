@@ -9,11 +9,10 @@ use Rattle.refusals.specs.Refusals.{refusal}
 use Rattle.text.specs.Lines.{split}
 use Rattle.text.specs.Pieces.{Keyword}
 use Rattle.forms.specs.Forms.{count_of, count_line, closing, is_closing}
-use Rattle.text.proofs.Cases.{never}
+use Rattle.text.proofs.Cases.{never, clash}
 use Rattle.forms.proofs.Laws.{forms_hold}
 use Rattle.ways.specs.Kinds.{Notation, Lawful}
 use Rattle.ways.specs.Judging.{way, ends_at, with_move, moves_from, followed, follow_all, counted, judged_as, judged_parts, judged, Follows, ends, goes, Accepted, AcceptsExactly}
-use Rattle.text.proofs.Cases.{clash}
 use Rattle.ways.proofs.Steps.{followed_legal}
 
 pub way_word : Keyword way

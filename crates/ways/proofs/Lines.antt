@@ -9,11 +9,10 @@ use Rattle.refusals.specs.declared.Refusal.{Refusal}
 use Rattle.refusals.specs.Refusals.{refusal}
 use Rattle.forms.specs.Forms.{count_line, closing}
 use Rattle.text.specs.Lines.{join_lines}
-use Rattle.text.proofs.Cases.{never}
+use Rattle.text.proofs.Cases.{never, clash}
 use Rattle.ways.specs.Kinds.{Notation}
 use Rattle.ways.specs.Judging.{way}
 use Rattle.ways.specs.Writing.{opened, played_from, checked_as, checked, Playable, move_lines, way_text, fits, written_as, written, laid_as, laid}
-use Rattle.text.proofs.Cases.{clash}
 use Rattle.ways.proofs.Steps.{reached_more}
 
 -- what `play` answered, read back

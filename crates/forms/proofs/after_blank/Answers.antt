@@ -1,5 +1,5 @@
-use Rattle.words.proofs.Blanks.{blank_end, blank_not, blank_here}
-use Rattle.words.proofs.after_blank.Goals as goal
+use Rattle.forms.proofs.Blanks.{blank_end, blank_not, blank_here}
+use Rattle.forms.proofs.after_blank.Goals as goal
 
 pub returns-then-at-text : goal.returns-then-at-text
 returns-then-at-text c = blank_end c.args.line.text.now c.args.line.at c.if-at-text.true

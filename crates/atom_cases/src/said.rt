@@ -1,5 +1,5 @@
 //! What is said of a level and a way, and what a buffer holds.
-use judgement::judge_texts;
+use judgement::judge_either;
 use refusals::Refusal;
 use std::process::Abort;
 
@@ -14,7 +14,7 @@ pub(crate) fn said(answer: Result<usize, Refusal>) -> Said {
 }
 
 fn judged(level: &str, way: &str) -> Said {
-    match judge_texts(level.as_bytes(), way.as_bytes()) {
+    match judge_either(level.as_bytes(), way.as_bytes()) {
         Ok(count) => (0, count as usize),
         Err(refusal) => said(Err(refusal)),
     }

@@ -5,7 +5,7 @@ use Rattle.std.proofs.lemmas.Fmt.{decimal_nonempty, digits_decimal}
 use Rattle.std.proofs.lemmas.Slice.Eq.{bytes_eq-Decides}
 use Rattle.std.proofs.lemmas.Bool.{cases_eq, cond-true, cond-false, eq-eqb, ne_eqb}
 use Rattle.text.specs.Pieces.{Said, opens, closes, word, number, or_word, piece_in, spell, Keyword}
-use Rattle.words.specs.Words.{◌then◌, after_blank, number_only, word_only, open_only, open_in, number_in, plain_word_in, word_in, this_word, keyword_in}
+use Rattle.forms.specs.Forms.{◌then◌, after_blank, number_only, word_only, open_only, open_in, number_in, plain_word_in, word_in, this_word, keyword_in}
 use Rattle.text.proofs.Numbers.{reads_back, own}
 use Rattle.text.proofs.Cases.{never, parts}
 use Rattle.text.proofs.Runs.{Fine, piece_splits, Stops, run_reads, plain_digits}

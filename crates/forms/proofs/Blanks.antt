@@ -2,7 +2,7 @@
 use Rattle.std.proofs.Common.{◌≡◌, ℕ, ◌+◌, ◌<◌, ◌≤◌, List, length, get_or, drop, Some, None, sym, ◌∙◌, arith}
 use Rattle.std.proofs.lemmas.List.{at_drop_more, at_drop_all}
 use Rattle.std.proofs.lemmas.Bool.Decides.{nat_tests}
-use Rattle.words.specs.Words.{after_blank}
+use Rattle.forms.specs.Forms.{after_blank}
 
 pub blank_end : (t : List ℕ) (at : ℕ) → length t ≤ at → None ≡ after_blank (drop at t)
 blank_end t at h = sym (at_drop_all after_blank t at h)

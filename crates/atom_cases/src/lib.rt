@@ -1,0 +1,7 @@
+//! Atom levels and their ways, good and damaged, with what is said of each. The crate is there for its tests.
+#![tactic(auto)]
+
+#[cfg(test)]
+mod atoms;
+#[cfg(test)]
+mod said;
