@@ -1,5 +1,5 @@
 -- A way is accepted for a level text exactly where both are right. Assumes nothing.
-use Rattle.std.proofs.Common.{◌≡◌, ℕ, List, Ok, Err, Result, sym, refl, ap, ◌∙◌}
+use Rattle.std.proofs.Common.{◌≡◌, ℕ, List, Ok, Err, Result, refl, ap, ◌∙◌}
 use Rattle.refusals.specs.declared.Refusal.{Refusal}
 use Rattle.text.proofs.Cases.{clash}
 use Rattle.tiles.specs.Level.{Tiles}
