@@ -2,6 +2,6 @@
 #![tactic(auto)]
 
 #[cfg(test)]
-mod atoms;
-#[cfg(test)]
 mod said;
+#[cfg(test)]
+mod tables;

@@ -13,7 +13,7 @@ use Rattle.atoms.specs.Level.{Atoms, atoms, Valid}
 use Rattle.atoms.specs.Making.{made}
 use Rattle.atoms_text.specs.Writing.{level_text}
 
--- the form of a line: `(atomix 𝓛 H`, `(row X)`, `(want X)`, `)`, or none of these
+-- the form of a line: `(atomix W H`, `(row X)`, `(want X)`, `)`, or none of these
 pub data Form : Type 0 where
   size : ℕ → ℕ → Form
   row : List ℕ → Form

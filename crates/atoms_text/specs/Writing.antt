@@ -23,7 +23,7 @@ drawn_lines kw (suc h) w xs = drawn_line kw (take w xs) ∷ drawn_lines kw h w (
 abbrev pub picture_lines : List ℕ → Shape → List (List ℕ)
 picture_lines kw s = drawn_lines kw s.height s.width s.cells
 
--- `(atomix 𝓛 H`, the rows of the board, the rows of the molecule, and `)`
+-- `(atomix W H`, the rows of the board, the rows of the molecule, and `)`
 abbrev pub level_text : Atoms → List ℕ
 level_text l =
     join_lines
