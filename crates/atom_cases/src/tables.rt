@@ -524,7 +524,13 @@ fn judges_moves(rt: HostRuntime) {
 }
 
 // Levels with ways.
-static OTHERS: [(&str, &str, u32, usize); 16] = [
+static OTHERS: [(&str, &str, u32, usize); 17] = [
+    (
+        "(tiles 2 2\n(row 0 3)\n(row 2 1)\n)\n",
+        "(way 6\n(move right)\n(move down)\n(move left)\n(move up)\n(move right)\n(move down)\n)\n",
+        0,
+        6,
+    ),
     (
         "(atomix 4 2\n(row A..#)\n(row ..B.)\n(want AB)\n)\n",
         "(way 2\n(move 0 0 down)\n(move 1 0 right)\n)\n",

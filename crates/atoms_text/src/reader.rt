@@ -1,6 +1,6 @@
 ghost use Rattle.std.specs.Prelude.{◌≡◌, ◌<◌};
 ghost use Rattle.text.specs.Lines.{bytes};
-ghost use Rattle.molecules.specs.Molecules.{told as toldMolecule};
+ghost use Rattle.molecules.specs.Molecules.{told as told_molecule};
 ghost use Rattle.atoms_text.specs.Reading.{side, first_want, form_of, taken, finish, read_level, told, ReadsExactly};
 ghost use Rattle.atoms_text.specs.Reader.{said, view, after_row, told_reader};
 
@@ -86,7 +86,7 @@ fn after_row(more: u8) -> Expected
 
 // The first row of a molecule, which settles its width.
 fn first_row(row: &[u8]) -> Option<Molecule>
-    ensures { toldMolecule result ≡ first_want row.now }
+    ensures { told_molecule result ≡ first_want row.now }
 {
     Molecule::new(row.len())?.with_row(row)
 }

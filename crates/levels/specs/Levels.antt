@@ -4,10 +4,10 @@ use Rattle.std.specs.Str.{bytes_eq}
 use Rattle.refusals.specs.declared.Refusal.{Refusal}
 use Rattle.tiles.specs.Level as tile
 use Rattle.atoms.specs.Level as atom
-use Rattle.tiles_text.specs.Writing as tile-text
-use Rattle.atoms_text.specs.Writing as atom-text
-use Rattle.tiles_text.specs.Reading as tile-reading
-use Rattle.atoms_text.specs.Reading as atom-reading
+use Rattle.tiles_text.specs.Writing as tile_text
+use Rattle.atoms_text.specs.Writing as atom_text
+use Rattle.tiles_text.specs.Reading as tile_reading
+use Rattle.atoms_text.specs.Reading as atom_reading
 use Rattle.levels.specs.declared.Level as code
 use Rattle.levels.specs.declared.Level.TheVariants as coded
 
@@ -17,8 +17,8 @@ pub data Level : Type 0 where
 
 -- the text of a level
 abbrev pub level_text : Level → List ℕ
-level_text (tiles l) = tile-text.level_text l
-level_text (atoms l) = atom-text.level_text l
+level_text (tiles l) = tile_text.level_text l
+level_text (atoms l) = atom_text.level_text l
 
 -- what makes a level, by its kind
 abbrev pub Valid : Level → Type 0
@@ -39,7 +39,7 @@ as_atoms (Err e) = Err e
 
 -- the level that a text spells, or why it spells none
 abbrev pub read_level : List ℕ → Result Level Refusal
-read_level text = cond (says_atoms text) (as_atoms (atom-reading.read_level text)) (as_tiles (tile-reading.read_level text))
+read_level text = cond (says_atoms text) (as_atoms (atom_reading.read_level text)) (as_tiles (tile_reading.read_level text))
 
 abbrev pub shown : code.Level → Level
 shown (coded.Tiles l) = tiles (tile.tiles l)

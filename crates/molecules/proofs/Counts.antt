@@ -10,8 +10,8 @@ use Rattle.pictures.specs.Pictures.{shape, cell_at}
 use Rattle.pictures.proofs.Shapes.{cells_at_most, length_cells}
 
 -- the board of a picture has as many cells as the picture shows
-pub cells_of : (p : Picture) (g : Grid) (n : ℕ) → g ≡ p.grid → n ≡ g.width * g.height → length (shape p).cells ≡ n
-cells_of p g n same counted = length_cells p ∙ sym (counted ∙ ap (λ (b : Grid). b.width * b.height) same)
+pub cells_counted : (p : Picture) (g : Grid) (n : ℕ) → g ≡ p.grid → n ≡ g.width * g.height → length (shape p).cells ≡ n
+cells_counted p g n same counted = length_cells p ∙ sym (counted ∙ ap (λ (b : Grid). b.width * b.height) same)
 
 -- they are at most 256
 pub cells_few : (p : Picture) → length (shape p).cells ≤ 256
@@ -19,7 +19,7 @@ cells_few p = omega (arith, length_cells p, cells_at_most p)
 
 -- and each is below 256
 pub cell_small : (p : Picture) (g : Grid) (n i : ℕ) → g ≡ p.grid → n ≡ g.width * g.height → i < n → i < 256
-cell_small p g n i same counted h = omega (arith, cells_of p g n same counted, cells_few p)
+cell_small p g n i same counted h = omega (arith, cells_counted p g n same counted, cells_few p)
 
 -- k of the first i cells of a picture pass a test
 abbrev pub Counted : (Cell → Bool) → Picture → ℕ → ℕ → Type 0

@@ -1,7 +1,7 @@
 use Rattle.std.proofs.Common.{◌<◌, sym, ap, ◌∙◌, arith}
 use Rattle.pictures.specs.Pictures.{shape}
 use Rattle.molecules.specs.Atoms.{is_atom}
-use Rattle.molecules.proofs.Counts.{cells_of, cell_small}
+use Rattle.molecules.proofs.Counts.{cells_counted, cell_small}
 use Rattle.atoms.specs.Board.{label_of}
 use Rattle.atoms.proofs.Roll.{no_atom, call_room, call_one, call_none, call_all}
 use Rattle.atoms.proofs.level.making.call_roll.Goals as goal
@@ -11,7 +11,7 @@ use Rattle.atoms.proofs.level.making.call_roll.Goals.{in-Atom, in_default}
 room : (c : goal.In-Atom) → c.loop-place.count < 16
 room c =
     let p = c.args.board.now in
-    let long = cells_of p _ _ c.grid.ensures c.cells-place-end.ensures in
+    let long = cells_counted p _ _ c.grid.ensures c.cells-place-end.ensures in
     call_room (shape p) _ _ _ _ c.loop-place.invariant c.requires (omega arith) (ap is_atom (sym c.in-Atom.ensures))
 
 pub bounds-labels-count : goal.bounds-labels-count
@@ -30,7 +30,7 @@ overflow_add-count c = omega (arith, room c)
 pub loop-place-preserved : goal.loop-place-preserved
 loop-place-preserved c =
     let p = c.args.board.now in
-    let long = cells_of p _ _ c.grid.ensures c.cells-place-end.ensures in
+    let long = cells_counted p _ _ c.grid.ensures c.cells-place-end.ensures in
     elim c.match-cell.branch [
       | in-Atom w ↦
           let here = sym w.in-Atom.ensures in
@@ -44,6 +44,6 @@ loop-place-preserved c =
 pub returns : goal.returns
 returns c =
     let p = c.args.board.now in
-    let long = cells_of p _ _ c.grid.ensures c.cells-place-end.ensures in
+    let long = cells_counted p _ _ c.grid.ensures c.cells-place-end.ensures in
     let done = call_all (shape p) _ _ _ _ c.loop-place.invariant (omega arith) in
     record { cells = done.0; labels = done.1 }

@@ -1,7 +1,7 @@
 use Rattle.std.proofs.Common.{sym, ap, ◌∙◌, arith}
 use Rattle.pictures.specs.Pictures.{shape}
 use Rattle.molecules.specs.Atoms.{is_wall}
-use Rattle.molecules.proofs.Counts.{cells_of, cell_small}
+use Rattle.molecules.proofs.Counts.{cells_counted, cell_small}
 use Rattle.atoms.proofs.Walls.{no_wall, walled_one, walled_none, walled_all}
 use Rattle.atoms.proofs.level.making.walls_of.Goals as goal
 use Rattle.atoms.proofs.level.making.walls_of.Goals.{in-Wall, in_default}
@@ -13,7 +13,7 @@ overflow_cast-place c =
 pub loop-place-preserved : goal.loop-place-preserved
 loop-place-preserved c =
     let p = c.args.board.now in
-    let long = cells_of p _ _ c.grid.ensures c.cells-place-end.ensures in
+    let long = cells_counted p _ _ c.grid.ensures c.cells-place-end.ensures in
     elim c.match-cell.branch [
       | in-Wall w ↦
           rw w.walls-is (walled_one (shape p) _ _ _ c.loop-place.invariant (omega arith) (ap is_wall (sym w.in-Wall.ensures)) w.insert.ensures)
@@ -24,5 +24,5 @@ loop-place-preserved c =
 pub returns : goal.returns
 returns c =
     let p = c.args.board.now in
-    let long = cells_of p _ _ c.grid.ensures c.cells-place-end.ensures in
+    let long = cells_counted p _ _ c.grid.ensures c.cells-place-end.ensures in
     walled_all (shape p) _ _ c.loop-place.invariant (omega arith)

@@ -2,7 +2,7 @@ use Rattle.std.proofs.Common.{◌≡◌, ◌<◌, length, sym, ap, ◌∙◌, ar
 use Rattle.pictures.specs.Pictures.{shape}
 use Rattle.molecules.specs.Molecules.{wanted}
 use Rattle.molecules.specs.Places.{is_place}
-use Rattle.molecules.proofs.Counts.{cells_of, cells_few, cell_small}
+use Rattle.molecules.proofs.Counts.{cells_counted, cells_few, cell_small}
 use Rattle.molecules.proofs.Passing.{passing, listed_one, listed_none, lists_exactly}
 use Rattle.molecules.proofs.places.GoalPlaces.find.Goals as goal
 use Rattle.molecules.proofs.places.GoalPlaces.find.Goals.{In-loop-place, then-is_goal_place, else-is_goal_place}
@@ -35,13 +35,13 @@ loop-place-preserved c =
 
 pub invariant_of-result : goal.invariant_of-result
 invariant_of-result c =
-    let long = cells_of c.args.board.now _ _ c.grid.ensures c.cells-place-end.ensures in
+    let long = cells_counted c.args.board.now _ _ c.grid.ensures c.cells-place-end.ensures in
     record { counted = omega (arith, cells_few c.args.board.now); full = c.loop-place.invariant.2 }
 
 pub returns : goal.returns
 returns c =
     let b = shape c.args.board.now in
     let m = wanted c.args.molecule.now in
-    let long = cells_of c.args.board.now _ _ c.grid.ensures c.cells-place-end.ensures in
+    let long = cells_counted c.args.board.now _ _ c.grid.ensures c.cells-place-end.ensures in
     let all : c.loop-place.place ≡ length b.cells = omega arith in
     record { finds = c.loop-place.invariant.0 ∙ ap (passing (is_place b m)) all; exactly = lists_exactly b m }

@@ -3,7 +3,7 @@ use Rattle.pictures.specs.declared.picture.Picture.{Picture}
 use Rattle.pictures.specs.Pictures.{shape}
 use Rattle.molecules.specs.Atoms.{is_atom, is_wall}
 use Rattle.molecules.specs.Places.{is_place}
-use Rattle.molecules.proofs.Counts.{cells_of, cell_small}
+use Rattle.molecules.proofs.Counts.{cells_counted, cell_small}
 use Rattle.molecules.proofs.Fitting.{lies_no_atom, lies_no_wall, lies_not, lies_all}
 use Rattle.molecules.proofs.places.finding.is_goal_place.Goals as goal
 use Rattle.molecules.proofs.places.finding.is_goal_place.Goals.{else-is_atom-via-then-is_atom+else-is_wall, else-is_atom-via-else-is_atom}
@@ -16,7 +16,7 @@ pub returns-then-is_wall : goal.returns-then-is_wall
 returns-then-is_wall c =
     let b = shape c.args.board.now in
     let m = c.picture-picture.result in
-    let long = cells_of m _ _ c.grid.ensures c.cells-i-end.ensures in
+    let long = cells_counted m _ _ c.grid.ensures c.cells-i-end.ensures in
     let atom = ap is_atom (sym c.cell.ensures) ∙ sym c.is_atom.ensures ∙ c.if-is_atom.true in
     let wall = ap is_wall (sym c.under.ensures) ∙ sym c.is_wall.ensures ∙ c.if-is_wall.true in
     sym (lies_not b (shape m) c.args.place c.loop-i.i (omega arith) atom wall)
@@ -37,6 +37,6 @@ pub returns : goal.returns
 returns c =
     let b = shape c.args.board.now in
     let m = c.picture-picture.result in
-    let long = cells_of m _ _ c.grid.ensures c.cells-i-end.ensures in
+    let long = cells_counted m _ _ c.grid.ensures c.cells-i-end.ensures in
     sym (lies_all b (shape m) _ c.loop-i.i (omega arith) c.loop-i.invariant)
     ∙ ap (λ (p : Picture). is_place b (shape p) c.args.place) c.picture-picture.ensures
