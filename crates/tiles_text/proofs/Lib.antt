@@ -1,5 +1,5 @@
 pub mod Packing
-pub mod Rows
+pub mod Spelling
 pub mod Judging
 pub mod Taking
 pub mod Looping

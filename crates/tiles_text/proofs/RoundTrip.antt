@@ -13,10 +13,9 @@ use Rattle.tiles.specs.declared.level.TileLevel.{TileLevel}
 use Rattle.tiles.specs.Level.{Tiles, tiles_of, tiles, Valid}
 use Rattle.tiles.proofs.Board.{Small, few_cells, length_unpacked, packed_lt, packed_unpacked, unpacked_packed}
 use Rattle.tiles_text.specs.Reading.{Expect, head, rows, last, nothing, taken, each_once, level, finished, read_level, after_row, ReadsExactly}
-use Rattle.tiles_text.specs.Reader.{Sized}
 use Rattle.tiles_text.specs.Writing.{row_line, row_lines, level_text}
 use Rattle.text.proofs.Cases.{clash}
-use Rattle.tiles_text.proofs.Forms.{head_line, took_head, TookRow, took_row, took_close, takes_head, takes_row, takes_close, short_head, short_row, short_close}
+use Rattle.tiles_text.proofs.Forms.{Sized, head_line, took_head, TookRow, took_row, took_close, takes_head, takes_row, takes_close, short_head, short_row, short_close}
 use Rattle.tiles_text.proofs.Judging.{valid_decides, all_below}
 use Rattle.text.proofs.Texts.{Short, one_line, is_text_lem, text_cut}
 
@@ -171,7 +170,7 @@ written w h us tiled =
     let small : All Small us = All-weaker (λ k. k < w * h) Small (λ k below. omega arith) us tiled.below in
     let back : unpacked (w * h) (packed us) ≡ us = ap (λ k. unpacked k (packed us)) (sym tiled.long) ∙ unpacked_packed us small in
     let fits : packed us < 16 ^ (w * h) = omega (arith, packed_lt us small, ap (λ k. 16 ^ k) tiled.long) in (
-      (valid_decides w h (packed us) tiled.sized fits).0 (ap (each_once (w * h)) back ∙ tiled.once),
+      (valid_decides w h (packed us) tiled.sized.wide tiled.sized.high fits).0 (ap (each_once (w * h)) back ∙ tiled.once),
       ap (λ x. join_lines (level_lines w h x)) (sym back),
     )
 
@@ -274,7 +273,7 @@ read_all l valid =
       sized = sized;
       long = length_unpacked (w * h) l.start;
       below = all_below (w * h) l.start valid.numbered;
-      once = (valid_decides w h l.start sized fits).1 valid;
+      once = (valid_decides w h l.start valid.wide valid.high fits).1 valid;
     } in
     lines_read w h sized us tiled ∙ ap (λ p. Ok (tiles_of w h p)) (packed_unpacked (w * h) l.start fits)
 

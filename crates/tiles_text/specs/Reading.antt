@@ -49,6 +49,14 @@ numbers_in limit (suc k) l =
 abbrev pub after_row : ℕ → ℕ → ℕ → List ℕ → Expect
 after_row w h left ts = cond (left == 1) (last w h ts) (rows w h (left - 1) ts)
 
+-- after a head of this size
+abbrev pub begun : ℕ → ℕ → Option Expect
+begun w h = cond (side w && side h) (Some (rows w h h [])) None
+
+-- after the row that these bytes spell
+abbrev pub grown : ℕ → ℕ → ℕ → List ℕ → List ℕ → Option Expect
+grown w h left ts x = numbers_in (w * h) w x then (λ r. Some (after_row w h left (ts ++ r)))
+
 abbrev pub with_row : ℕ → ℕ → ℕ → ℕ → List ℕ → Option (List ℕ) → Result Expect Refusal
 with_row n w h left ts (Some r) = Ok (after_row w h left (ts ++ r))
 with_row n w h left ts None = Err (refusal BadRow n)

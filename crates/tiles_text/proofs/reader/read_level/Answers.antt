@@ -14,23 +14,21 @@ here c = line_found _ _ _ c.in-Some.ensures
 pub returns-then-not-is_text : goal.returns-then-not-is_text
 returns-then-not-is_text c = record { reads = search rules; exactly = reads_exactly _ }
 
-pub returns-in_err-take : goal.returns-in_err-take
-returns-in_err-take c =
+pub returns-in_err-reader : goal.returns-in_err-reader
+returns-in_err-reader c =
     let p = err_from_is_err_and c.from_residual.result c.from_residual.ensures.1 in
     record {
       reads =
           ap told (p.1 ∙ ap Err p.2)
-          ∙ ap finished (line_refused _ _ _ _ c.loop-line.invariant.0 _ (here (goal.at.returns-in_err-take c).In-Some) _ c.in_err-take.ensures.0)
+          ∙ ap finished (line_refused _ _ _ _ c.loop-line.invariant.0 _ (here (goal.at.returns-in_err-reader c).In-Some) _ (sym c.in_err-reader.ensures))
           ∙ read_text_lem c.args.text.now (sym c.is_text.ensures ∙ c.if-not-is_text.false);
       exactly = reads_exactly _;
     }
 
 pub loop-line-preserved : goal.loop-line-preserved
 loop-line-preserved c =
-    let line = here (goal.at.loop-line-preserved c).In-Some in
-    let took = c.in_ok-take.ensures in (
-      line_taken _ _ _ _ c.loop-line.invariant.0 c.in-Some.line line (view c.take.new.self) took.0,
-      took.1,
+    let line = here (goal.at.loop-line-preserved c).In-Some in (
+      line_taken _ _ _ _ c.loop-line.invariant.0 c.in-Some.line line (view c.in_ok-reader.reader) (sym c.in_ok-reader.ensures),
       omega arith,
       omega (arith, line.long),
       omega (arith, line.long, line.ended),
