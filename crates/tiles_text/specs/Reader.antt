@@ -1,6 +1,8 @@
 -- What the reader in the code stands for. Assumes nothing.
 use Rattle.std.specs.Prelude.{ℕ, ◌*◌, List, Some, None, Ok, Err, Option, Result}
+use Rattle.refusals.specs.declared.Fault.{Fault}
 use Rattle.refusals.specs.declared.Refusal.{Refusal}
+use Rattle.refusals.specs.Refusals.{refusal}
 use Rattle.text.specs.Lines.{bytes}
 use Rattle.tiles.specs.Board.{unpacked}
 use Rattle.tiles_text.specs.declared.reader.Form as code
@@ -38,6 +40,11 @@ told_rows None = None
 abbrev pub told_option : Option Reader → Option Expect
 told_option (Some r) = Some (view r)
 told_option None = None
+
+-- a refusal named with its line
+abbrev pub told_at : ℕ → Result Reader Fault → Result Expect Refusal
+told_at n (Ok r) = Ok (view r)
+told_at n (Err f) = Err (refusal f n)
 
 abbrev pub told_reader : Result Reader Refusal → Result Expect Refusal
 told_reader (Ok r) = Ok (view r)

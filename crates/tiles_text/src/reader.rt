@@ -1,8 +1,8 @@
-ghost use Rattle.std.specs.Prelude.{◌≡◌, ◌*◌, ◌<◌};
+ghost use Rattle.std.specs.Prelude.{◌≡◌, ℕ, ◌*◌, ◌<◌};
 ghost use Rattle.text.specs.Lines.{bytes};
 ghost use Rattle.tiles.specs.Level.{packed_to};
-ghost use Rattle.tiles_text.specs.Reading.{form_of, numbers_in, begun, grown, taken, finish, read_level, told, ReadsExactly};
-ghost use Rattle.tiles_text.specs.Reader.{said, tiles_so_far, view, told_rows, told_option, told_reader};
+ghost use Rattle.tiles_text.specs.Reading.{form_of, numbers_in, begun, grown, next, taken, finish, read_level, told, ReadsExactly};
+ghost use Rattle.tiles_text.specs.Reader.{said, tiles_so_far, view, told_rows, told_option, told_at, told_reader};
 
 use crate::rows::{Board, Rows};
 use grid::Grid;
@@ -109,28 +109,29 @@ impl Rows {
 }
 
 impl Reader {
+    // What is due and the form of the next line, judged together.
+    fn after(self, form: Form) -> Result<Reader, Fault>
+        ensures { (n : ℕ) → told_at n result ≡ next n (view self) (said form.entry) }
+    {
+        match (self, form) {
+            (Reader::Head, Form::Size(width, height)) => {
+                let rows = Rows::new(width, height).ok_or(Fault::BoardSize)?;
+                Ok(Reader::Rows(rows))
+            }
+            (Reader::Rows(rows), Form::Row(row)) => rows.with_row(row).ok_or(Fault::BadRow),
+            (Reader::Close(board), Form::Close) => Ok(Reader::End(board)),
+            _ => Err(Fault::LineForm),
+        }
+    }
+
     // Takes one line.
     fn take(self, line: Line, number: usize) -> Result<Reader, Refusal>
         ensures { told_reader result ≡ taken (view self) number (bytes line.entry) }
     {
-        match (self, form_of(line)) {
-            (Reader::Head, Form::Size(width, height)) => match Rows::new(width, height) {
-                Some(rows) => Ok(Reader::Rows(rows)),
-                None => Err(Refusal {
-                    fault: Fault::BoardSize,
-                    line: number,
-                }),
-            },
-            (Reader::Rows(rows), Form::Row(row)) => rows.with_row(row).ok_or(Refusal {
-                fault: Fault::BadRow,
-                line: number,
-            }),
-            (Reader::Close(board), Form::Close) => Ok(Reader::End(board)),
-            _ => Err(Refusal {
-                fault: Fault::LineForm,
-                line: number,
-            }),
-        }
+        self.after(form_of(line)).map_err(|fault| Refusal {
+            fault,
+            line: number,
+        })
     }
 
     // The level, once no line is left; `number` is the line that would come next.
