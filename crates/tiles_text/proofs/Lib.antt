@@ -2,7 +2,6 @@ pub mod Packing
 pub mod Spelling
 pub mod Judging
 pub mod Taking
-pub mod Looping
 pub mod Inking
 pub mod Forms
 pub mod RoundTrip

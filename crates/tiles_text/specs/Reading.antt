@@ -3,7 +3,7 @@ use Rattle.std.specs.Prelude.{◌≡◌, ℕ, zero, suc, ◌-◌, ◌*◌, Bool,
 use Rattle.refusals.specs.declared.Fault.TheVariants.{NotText, LineForm, BoardSize, BadRow, TileNumbers}
 use Rattle.refusals.specs.declared.Refusal.{Refusal}
 use Rattle.refusals.specs.Refusals.{refusal}
-use Rattle.text.specs.Lines.{is_text, split, Reading, read_lines}
+use Rattle.text.specs.Lines.{read_text}
 use Rattle.forms.specs.Forms.{◌then◌, number_in, size_of, arguments_of, is_closing}
 use Rattle.tiles.specs.Board.{packed}
 use Rattle.tiles.specs.declared.level.TileLevel.{TileLevel}
@@ -95,13 +95,9 @@ finish n (rows w h left ts) = Err (refusal LineForm n)
 finish n (last w h ts) = Err (refusal LineForm n)
 finish n (nothing w h ts) = cond (each_once (w * h) ts) (Ok (level w h ts)) (Err (refusal TileNumbers (n - 1)))
 
-abbrev pub finished : Result (Reading Expect) Refusal → Result Tiles Refusal
-finished (Ok r) = finish r.line r.state
-finished (Err e) = Err e
-
 -- the level that a text spells, or why it spells none
 abbrev pub read_level : List ℕ → Result Tiles Refusal
-read_level text = cond (is_text text) (finished (read_lines taken head 1 (split text))) (Err (refusal NotText 0))
+read_level text = read_text taken finish head (refusal NotText 0) text
 
 abbrev pub told : Result TileLevel Refusal → Result Tiles Refusal
 told (Ok l) = Ok (tiles l)
