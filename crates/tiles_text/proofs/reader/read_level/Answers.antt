@@ -1,9 +1,12 @@
 use Rattle.std.proofs.Common.{Err, sym, ap, ◌∙◌, arith, rules}
 use Rattle.std.proofs.lemmas.Result.{err_from_is_err_and}
-use Rattle.tiles_text.specs.Reading.{told, finished}
+use Rattle.refusals.specs.declared.Fault.TheVariants.{NotText}
+use Rattle.refusals.specs.Refusals.{refusal}
+use Rattle.text.specs.Lines.{concluded}
+use Rattle.tiles_text.specs.Reading.{head, taken, finish, told}
 use Rattle.tiles_text.specs.Reader.{view}
 use Rattle.text.proofs.Lines.{Found, line_found, line_missing}
-use Rattle.tiles_text.proofs.Looping.{read_text_lem, line_taken, line_refused, lines_end}
+use Rattle.text.proofs.Reading.{read_text_lem, line_taken, line_refused, lines_end}
 use Rattle.tiles_text.proofs.RoundTrip.{reads_exactly}
 use Rattle.tiles_text.proofs.reader.read_level.Goals as goal
 use Rattle.tiles_text.proofs.reader.read_level.Goals.{In-Some}
@@ -14,23 +17,21 @@ here c = line_found _ _ _ c.in-Some.ensures
 pub returns-then-not-is_text : goal.returns-then-not-is_text
 returns-then-not-is_text c = record { reads = search rules; exactly = reads_exactly _ }
 
-pub returns-in_err-take : goal.returns-in_err-take
-returns-in_err-take c =
+pub returns-in_err-reader : goal.returns-in_err-reader
+returns-in_err-reader c =
     let p = err_from_is_err_and c.from_residual.result c.from_residual.ensures.1 in
     record {
       reads =
           ap told (p.1 ∙ ap Err p.2)
-          ∙ ap finished (line_refused _ _ _ _ c.loop-line.invariant.0 _ (here (goal.at.returns-in_err-take c).In-Some) _ c.in_err-take.ensures.0)
-          ∙ read_text_lem c.args.text.now (sym c.is_text.ensures ∙ c.if-not-is_text.false);
+          ∙ ap (concluded finish) (line_refused taken finish head _ _ _ _ c.loop-line.invariant.0 _ (here (goal.at.returns-in_err-reader c).In-Some) _ (sym c.in_err-reader.ensures))
+          ∙ read_text_lem taken finish head (refusal NotText 0) c.args.text.now (sym c.is_text.ensures ∙ c.if-not-is_text.false);
       exactly = reads_exactly _;
     }
 
 pub loop-line-preserved : goal.loop-line-preserved
 loop-line-preserved c =
-    let line = here (goal.at.loop-line-preserved c).In-Some in
-    let took = c.in_ok-take.ensures in (
-      line_taken _ _ _ _ c.loop-line.invariant.0 c.in-Some.line line (view c.take.new.self) took.0,
-      took.1,
+    let line = here (goal.at.loop-line-preserved c).In-Some in (
+      line_taken taken finish head _ _ _ _ c.loop-line.invariant.0 c.in-Some.line line (view c.in_ok-reader.reader) (sym c.in_ok-reader.ensures),
       omega arith,
       omega (arith, line.long),
       omega (arith, line.long, line.ended),
@@ -45,7 +46,7 @@ pub returns : goal.returns
 returns c = record {
   reads =
       c.finish.ensures
-      ∙ lines_end _ _ _ _ c.loop-line.invariant.0 (line_missing _ _ c.in_default.ensures)
-      ∙ read_text_lem c.args.text.now (sym c.is_text.ensures ∙ c.if-not-is_text.false);
+      ∙ lines_end taken finish head _ _ _ _ c.loop-line.invariant.0 (line_missing _ _ c.in_default.ensures)
+      ∙ read_text_lem taken finish head (refusal NotText 0) c.args.text.now (sym c.is_text.ensures ∙ c.if-not-is_text.false);
   exactly = reads_exactly _;
 }
