@@ -70,7 +70,7 @@ fn compose_row(keyword: &[u8], picture: &Picture, row: usize, pen: &mut Pen)
     pen.put(keyword);
     pen.put(b" ");
     for column in 0..width {
-        let symbol = picture.cell(width * row + column).symbol();
+        let symbol = u8::from(picture.cell(width * row + column));
         pen.put(&[symbol]);
     }
     pen.put(b")\n");

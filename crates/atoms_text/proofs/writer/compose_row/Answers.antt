@@ -6,7 +6,7 @@ use Rattle.atoms_text.proofs.writer.compose_row.Goals as goal
 
 pub loop-column-preserved : goal.loop-column-preserved
 loop-column-preserved c =
-    let more = symbols_more c.args.picture.now _ c.grid-width.ensures c.args.row c.requires _ _ _ c.loop-column-test.true c.cell.ensures c.symbol-symbol.ensures.drawn in (
+    let more = symbols_more c.args.picture.now _ c.grid-width.ensures c.args.row c.requires _ _ _ c.loop-column-test.true c.cell.ensures c.from-symbol.ensures.drawn in (
       leads_more (leads_as more c.loop-column.invariant.0) c.put-in-loop-column.ensures.wrote,
       c.put-in-loop-column.ensures.same ∙ c.loop-column.invariant.1,
     )
