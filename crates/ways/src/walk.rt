@@ -44,7 +44,7 @@ impl<'a, K: Kind> Walk<'a, K> {
     pub(crate) fn play(&self, number: u32) -> Option<Self>
         ensures { let leads = opened (K.Kind.notation self.now.kind.now) self.now.position number in MatchOption result (leads ≡ None) (λ next. (leads ≡ Some next.position) × (next.kind ≡ self.now.kind)) }
     {
-        if number >= self.kind.moves() {
+        if number >= K::MOVES {
             return None;
         }
         let mut position = self.position;

@@ -19,7 +19,7 @@ const FIRST_MOVE_LINE: usize = 2;
 fn play_on<P: Copy, K: Kind<Position = P>>(kind: &K, position: &mut P, number: u32) -> bool
     ensures { Reached (K.Kind.notation kind.now).game position.old → Played (opened (K.Kind.notation kind.now) position.old number) result position.old position.new }
 {
-    if number >= kind.moves() {
+    if number >= K::MOVES {
         return false;
     }
     let from = *position;

@@ -9,7 +9,7 @@ pub invariant_of-result : goal.invariant_of-result
 invariant_of-result g c =
     let w = c.args.self.now in
     let k = g.K.Kind.notation w.kind.now in
-    let below : c.args.number < k.game.count = omega arith in
+    let below : c.args.number < k.game.count = omega (arith, g.met.K.Kind.counted w.kind.now) in
     record {
       reached =
           ∥∥₁_map w.reached
@@ -20,7 +20,7 @@ pub returns : goal.returns
 returns g c =
     let w = c.args.self.now in
     let k = g.K.Kind.notation w.kind.now in
-    let below : c.args.number < k.game.count = omega arith in
+    let below : c.args.number < k.game.count = omega (arith, g.met.K.Kind.counted w.kind.now) in
     let set = Coded-set (coded_option g.row.K-Position.coded) in
     let leads = ∥∥₁_elim w.reached (set _ _) (λ r. played_open _ _ _ (subst (λ b. Played (k.game.move w.position c.args.number) b w.position c.play.new.into) c.if-not-play.false (c.play.ensures r))) in
     (opened_below k w.position c.args.number below ∙ leads, refl)
