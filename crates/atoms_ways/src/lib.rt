@@ -2,7 +2,7 @@
 #![tactic(auto)]
 
 ghost use Rattle.std.specs.Prelude.{◌≡◌, ◌<◌};
-ghost use Rattle.pen.specs.Ink.{ink, Inked};
+ghost use Rattle.pen.specs.Ink.{Writes};
 ghost use Rattle.text.specs.Lines.{bytes};
 ghost use Rattle.atoms.specs.Level.{atoms};
 ghost use Rattle.atoms_ways.specs.Moves.{move_in, move_text, atom_notation};
@@ -53,9 +53,7 @@ fn read_line(line: Line) -> Option<AtomMove>
 
 // Writes the line `(move R C DIRECTION)`.
 fn write_line(written: AtomMove, pen: &mut Pen)
-    requires { (written.row < 256) × (written.column < 256) }
-    ensures wrote { Inked (move_text written) (ink pen.old) (ink pen.new) }
-    ensures same { pen.new.out.ghost_name ≡ pen.old.out.ghost_name }
+    ensures { Writes (move_text written) pen.old pen.new }
 {
     pen.put(b"(move ");
     pen.put_decimal(written.row);
