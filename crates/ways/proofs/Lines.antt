@@ -1,18 +1,16 @@
 -- The lines of a way, one move after the other. Assumes nothing.
 use Rattle.std.proofs.Common.{◌≡◌, ℕ, ◌+◌, ◌<◌, Bool, true, false, cond, ltb, List, [], ◌∷◌, length, get_or, drop, Some, None, Err, Option, Result, sym, refl, ap, ◌∙◌}
 use Rattle.std.proofs.lemmas.List.{at_drop_more}
-use Rattle.std.proofs.lemmas.Bool.{true≢false, false≢true, ltb-true}
+use Rattle.std.proofs.lemmas.Bool.{false≢true, ltb-true}
+use Rattle.std.proofs.lemmas.Bool.Decides.{nat_tests}
 use Rattle.puzzle.specs.Game.{Reached, Played}
 use Rattle.text.proofs.Cases.{never}
 use Rattle.ways.specs.Kinds.{Notation}
 use Rattle.ways.specs.Writing.{opened, played_from, move_lines}
 use Rattle.ways.proofs.Steps.{reached_more}
+pub use Rattle.ways.proofs.Steps.{played_open}
 
 -- what `play` answered, read back
-pub played_open : {P : Type 0} (o : Option P) (old new : P) → Played o true old new → o ≡ Some new
-played_open (Some q) old new h = ap Some (sym h.1)
-played_open None old new h = absurd (true≢false h.0)
-
 pub played_closed : {P : Type 0} (o : Option P) (old new : P) → Played o false old new → o ≡ None
 played_closed (Some q) old new h = absurd (false≢true h.0)
 played_closed None old new h = refl

@@ -5,6 +5,7 @@ ghost use Rattle.text.specs.Lines.{join_lines};
 ghost use Rattle.ways.specs.Writing.{opened, checked, Playable, move_lines, way_text, written, laid, WritesAccepted};
 
 use crate::kind::Kind;
+use crate::walk::Walk;
 use pen::{Compose, Pen, write_text};
 use refusals::{Fault, Refusal};
 
@@ -26,17 +27,14 @@ fn play_on<P: Copy, K: Kind<Position = P>>(kind: &K, position: &mut P, number: u
 }
 
 /// Refuses the first move that is closed, with the line that it would have.
-fn check_moves<P: Copy, K: Kind<Position = P>>(kind: &K, moves: &[u32]) -> Result<(), Refusal>
+fn check_moves<K: Kind>(kind: &K, moves: &[u32]) -> Result<(), Refusal>
     ensures { result ≡ checked (K.Kind.notation kind.now) moves.now }
 {
-    let mut position = kind.start();
+    let mut walk = Walk::start(kind);
     for (i, number) in moves.iter().enumerate() {
-        if !play_on(kind, &mut position, *number) {
-            return Err(Refusal {
-                fault: Fault::ClosedMove,
-                line: i + FIRST_MOVE_LINE,
-            });
-        }
+        walk = walk
+            .play(*number)
+            .ok_or(Fault::ClosedMove.at(i + FIRST_MOVE_LINE))?;
     }
     Ok(())
 }
