@@ -1,15 +1,16 @@
 ghost use Rattle.std.specs.Prelude.{◌≡◌, ℕ, ◌<◌};
 ghost use Rattle.text.specs.Lines.{bytes};
+ghost use Rattle.text.specs.Reading.{seen};
 ghost use Rattle.pictures.specs.Pictures.{shape};
 ghost use Rattle.molecules.specs.Molecules.{wanted, told as told_molecule};
 ghost use Rattle.atoms_text.specs.Reading.{begun, after_row, first_want, next_want, next, form_of, taken, finish, read_level, told, ReadsExactly};
-ghost use Rattle.atoms_text.specs.Reader.{said, view, told_option, told_want, told_at, told_reader};
+ghost use Rattle.atoms_text.specs.Reader.{said, view, told_option, told_want, told_at};
 
 use atoms::AtomLevel;
 use molecules::Molecule;
 use pictures::Picture;
 use refusals::{Fault, Refusal};
-use text::{Line, is_text, next_line};
+use text::{Line, LineReader, ReadText, is_text, read_lines};
 
 /// The most cells that a board or a molecule is wide and high.
 const LONGEST_SIDE: u32 = 16;
@@ -105,7 +106,9 @@ impl Reader {
         ensures { (n : ℕ) → told_at n result ≡ next n (view self) (said form.entry) }
     {
         match (self, form) {
-            (Reader::Head, Form::Size(width, height)) => begin(width, height).ok_or(Fault::BoardSize),
+            (Reader::Head, Form::Size(width, height)) => begin(width, height).ok_or(
+                Fault::BoardSize,
+            ),
             (Reader::Rows(board, more), Form::Row(row)) => {
                 let board = board.with_row(row).ok_or(Fault::BadRow)?;
                 Ok(Reader::after_row(board, more))
@@ -123,31 +126,27 @@ impl Reader {
         }
     }
 
-    // Takes one line.
-    fn take(self, line: Line, number: usize) -> Result<Reader, Refusal>
-        ensures { told_reader result ≡ taken (view self) number (bytes line.entry) }
-    {
-        self.after(form_of(line)).map_err(|fault| Refusal {
-            fault,
-            line: number,
-        })
-    }
-
     // The level, once no line is left; `number` is the line that would come next.
     fn finish(self, number: usize) -> Result<AtomLevel, Refusal>
         requires { 0 < number }
         ensures { told result ≡ finish number (view self) }
     {
         match self {
-            Reader::End(board, molecule) => AtomLevel::new(&board, &molecule).map_err(|fault| Refusal {
-                fault,
-                line: number - 1,
-            }),
-            _ => Err(Refusal {
-                fault: Fault::LineForm,
-                line: number,
-            }),
+            Reader::End(board, molecule) => AtomLevel::new(&board, &molecule).map_err(
+                |fault| fault.at(number - 1),
+            ),
+            _ => Err(Fault::LineForm.at(number)),
         }
+    }
+}
+
+impl LineReader for Reader {
+    type Error = Refusal;
+
+    ghost Takes = { λ reader n line r. seen view r ≡ taken (view reader) n line };
+
+    fn take(self, line: Line, number: usize) -> Result<Reader, Refusal> {
+        self.after(form_of(line)).map_err(|fault| fault.at(number))
     }
 }
 
@@ -158,18 +157,8 @@ pub fn read_level(text: &[u8]) -> Result<AtomLevel, Refusal>
     ensures exactly { ReadsExactly text.now }
 {
     if !is_text(text) {
-        return Err(Refusal {
-            fault: Fault::NotText,
-            line: 0,
-        });
+        return Err(Fault::NotText.at(0));
     }
-    let mut reader = Reader::Head;
-    let mut at = 0;
-    let mut number = 1;
-    while let Some(line) = next_line(text, at) {
-        reader = reader.take(line, number)?;
-        at = line.text.len() + 1;
-        number += 1;
-    }
+    let ReadText { reader, number, .. } = read_lines(Reader::Head, text)?;
     reader.finish(number)
 }
