@@ -12,9 +12,6 @@ use pictures::Picture;
 use refusals::{Fault, Refusal};
 use text::{Line, LineReader, ReadText, is_text, read_lines};
 
-/// The most cells that a board or a molecule is wide and high.
-const LONGEST_SIDE: u32 = 16;
-
 /// The form of a line.
 #[derive(Clone, Copy)]
 enum Form<'a> {
@@ -35,7 +32,7 @@ enum Reader {
     /// The line with the board's size.
     Head,
     /// A row of the board, and this many after it.
-    Rows(Picture, u8),
+    Rows(Picture, usize),
     /// The first row of the molecule.
     FirstWant(Picture),
     /// A further row of the molecule, or the closing bracket.
@@ -65,11 +62,12 @@ fn form_of<'a>(line: Line<'a>) -> Form<'a>
 fn begin(width: u32, height: u32) -> Option<Reader>
     ensures { told_option result ≡ begun width height }
 {
-    if !(1..=LONGEST_SIDE).contains(&height) {
+    let height = height as usize;
+    if !(1..=Picture::LONGEST_SIDE).contains(&height) {
         return None;
     }
     let board = Picture::new(width as usize)?;
-    Some(Reader::Rows(board, height as u8 - 1))
+    Some(Reader::Rows(board, height - 1))
 }
 
 // The first row of a molecule, which settles its width.
@@ -83,7 +81,7 @@ fn first_row(row: &[u8]) -> Option<Molecule>
 fn next_row(molecule: &Molecule, row: &[u8]) -> Result<Molecule, Fault>
     ensures { told_want result ≡ next_want (wanted molecule.now) row.now }
 {
-    if molecule.picture().grid().height as u32 >= LONGEST_SIDE {
+    if usize::from(molecule.picture().grid().height) >= Picture::LONGEST_SIDE {
         return Err(Fault::LineForm);
     }
     molecule.with_row(row).ok_or(Fault::BadWant)
@@ -91,7 +89,7 @@ fn next_row(molecule: &Molecule, row: &[u8]) -> Result<Molecule, Fault>
 
 impl Reader {
     // After a row of the board that this many follow.
-    fn after_row(board: Picture, more: u8) -> Reader
+    fn after_row(board: Picture, more: usize) -> Reader
         ensures { view result ≡ after_row (shape board) more }
     {
         if more == 0 {

@@ -9,10 +9,7 @@ use crate::rows::{Board, Rows};
 use grid::Grid;
 use refusals::{Fault, Refusal};
 use text::{Line, LineReader, ReadText, is_text, read_lines};
-use tiles::{TileLevel, is_side};
-
-/// The bits of a position that a cell takes.
-const CELL_BITS: usize = 4;
+use tiles::{BITS_PER_CELL, TileLevel, is_side};
 
 /// The form of a line.
 #[derive(Clone, Copy)]
@@ -84,7 +81,7 @@ impl Rows {
             if tile as usize >= self.grid.cells() {
                 return None;
             }
-            tiles += (tile as u64) << (CELL_BITS * column);
+            tiles += (tile as u64) << (BITS_PER_CELL * column);
             rest = after;
         }
         if rest.is_empty() { Some(tiles) } else { None }
@@ -96,7 +93,7 @@ impl Rows {
     {
         let tiles = self.read_row(row)?;
         let grid = self.grid;
-        let cells = self.cells + (tiles << (CELL_BITS * self.count));
+        let cells = self.cells + (tiles << (BITS_PER_CELL * self.count));
         if self.due == 1 {
             return Some(Reader::Close(Board { grid, cells }));
         }

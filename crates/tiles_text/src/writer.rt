@@ -7,10 +7,10 @@ ghost use Rattle.tiles_text.specs.Writing.{row_line, level_text, writes, past};
 
 use pen::{Compose, Pen, write_text};
 use refusals::{Fault, Refusal};
-use tiles::TileLevel;
+use tiles::{BITS_PER_CELL, TileLevel};
 
 /// What a position is divided by to leave out its first cell.
-const CELL: u64 = 16;
+const CELL: u64 = 1 << BITS_PER_CELL;
 
 /// Writes the text of a level at the front of `out`, and answers its length. If it does not fit, `out` stays as it was.
 pub fn write_level(level: &TileLevel, out: &mut [u8]) -> Result<usize, Refusal>
