@@ -1,11 +1,7 @@
 -- A level's text written part by part. Assumes nothing.
-use Rattle.std.proofs.Common.{◌≡◌, ℕ, suc, ◌+◌, ◌-◌, ◌*◌, ◌<◌, ◌≤◌, Bool, true, false, cond, leb, List, [], ◌∷◌, ◌++◌, map, length, take, drop, Some, None, Ok, Err, codes, decimal, Option, Result, sym, refl, ap, ◌∙◌, append_assoc, mul-add, arith}
+use Rattle.std.proofs.Common.{◌≡◌, ℕ, suc, ◌+◌, ◌-◌, ◌*◌, ◌<◌, ◌≤◌, List, [], ◌∷◌, ◌++◌, map, length, take, drop, codes, decimal, sym, refl, ap, ◌∙◌, append_assoc, mul-add, arith}
 use Rattle.std.proofs.lemmas.Nat.{mul-le}
 use Rattle.std.proofs.lemmas.List.{at_drop_more, at_drop_all, drop-drop, get_or-drop, get_or-take, length-drop, length-take-le}
-use Rattle.pen.specs.Ink.{count}
-use Rattle.refusals.specs.declared.Fault.TheVariants.{NoRoom}
-use Rattle.refusals.specs.declared.Refusal.{Refusal}
-use Rattle.refusals.specs.Refusals.{refusal}
 use Rattle.text.specs.Lines.{join_lines}
 use Rattle.forms.specs.Forms.{size_line, closing}
 use Rattle.grid.specs.declared.Grid.{Grid}
@@ -15,8 +11,8 @@ use Rattle.pictures.specs.declared.picture.Picture.{Picture}
 use Rattle.pictures.specs.Cells.{symbol_of}
 use Rattle.pictures.specs.Pictures.{Shape, shape, cell_at}
 use Rattle.pictures.proofs.Shapes.{length_cells}
-use Rattle.atoms.specs.Level.{Atoms, atoms_of}
-use Rattle.atoms_text.specs.Writing.{drawn_line, drawn_lines, picture_lines, level_text, writes}
+use Rattle.atoms.specs.Level.{atoms_of}
+use Rattle.atoms_text.specs.Writing.{drawn_line, drawn_lines, picture_lines, level_text}
 
 -- the cells of a row
 abbrev pub row_cells : Shape → ℕ → List Cell
@@ -103,15 +99,3 @@ level_text_lem b m w h wide high =
     ∙ ap (λ t. codes "(atomix " ++ t) (append_assoc (decimal w) (32 ∷ decimal h) (10 ∷ join_lines lines))
     ∙ ap (λ t. codes "(atomix " ++ (decimal w ++ (32 ∷ (decimal h ++ (10 ∷ t)))))
     (join_append board (molecule ++ (closing ∷ [])) ∙ ap (λ t. join_lines board ++ t) (join_append molecule (closing ∷ [])))
-
--- what was counted, as an answer
-abbrev pub answered : Option ℕ → Result ℕ Refusal
-answered (Some n) = Ok n
-answered None = Err (refusal NoRoom 0)
-
-pub answered_count : (l : Atoms) (out : List ℕ) → answered (count (level_text l) out) ≡ writes l out
-answered_count l out = by (leb (length (level_text l)) (length out))
-  where
-    by : (b : Bool) → answered (cond b (Some (length (level_text l))) None) ≡ cond b (Ok (length (level_text l))) (Err (refusal NoRoom 0))
-    by true = refl
-    by false = refl

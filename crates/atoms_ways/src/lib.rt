@@ -2,7 +2,7 @@
 #![tactic(auto)]
 
 ghost use Rattle.std.specs.Prelude.{◌≡◌, ◌<◌};
-ghost use Rattle.pen.specs.Ink.{ink, Inked};
+ghost use Rattle.pen.specs.Ink.{Writes};
 ghost use Rattle.text.specs.Lines.{bytes};
 ghost use Rattle.atoms.specs.Level.{atoms};
 ghost use Rattle.atoms_ways.specs.Moves.{move_in, move_text, atom_notation};
@@ -14,9 +14,6 @@ use grid::Direction;
 use pen::Pen;
 use text::Line;
 use ways::Kind;
-
-/// The moves of each atom, one for each direction.
-const DIRECTIONS: u32 = 4;
 
 /// The most atoms that a level may have.
 const MOST_ATOMS: u32 = 16;
@@ -46,7 +43,7 @@ fn read_line(line: Line) -> Option<AtomMove>
     if !rest.is_empty() || row >= THREE_DIGITS || column >= THREE_DIGITS {
         return None;
     }
-    let direction = Direction::from_word(spelled)?;
+    let direction = Direction::try_from(spelled).ok()?;
     Some(AtomMove {
         row,
         column,
@@ -56,9 +53,7 @@ fn read_line(line: Line) -> Option<AtomMove>
 
 // Writes the line `(move R C DIRECTION)`.
 fn write_line(written: AtomMove, pen: &mut Pen)
-    requires { (written.row < 256) × (written.column < 256) }
-    ensures wrote { Inked (move_text written) (ink pen.old) (ink pen.new) }
-    ensures same { pen.new.out.ghost_name ≡ pen.old.out.ghost_name }
+    ensures { Writes (move_text written) pen.old pen.new }
 {
     pen.put(b"(move ");
     pen.put_decimal(written.row);
@@ -79,7 +74,7 @@ impl Kind for AtomKind {
     ghost lawful = { λ z. Lawful.lawful (atoms z.0) (level_valid z.0) };
 
     fn moves(&self) -> u32 {
-        MOST_ATOMS * DIRECTIONS
+        MOST_ATOMS * Direction::COUNT
     }
 
     fn start(&self) -> Position {
@@ -100,15 +95,15 @@ impl Kind for AtomKind {
 
     fn move_number(&self, at: &Position, written: &AtomMove) -> Option<u32> {
         let atom = self.0.atom_at(at, written.row, written.column)?;
-        Some(atom * DIRECTIONS + written.direction.number())
+        Some(atom * Direction::COUNT + u32::from(written.direction))
     }
 
     fn write_move(&self, at: &Position, number: u32, pen: &mut Pen) {
-        let atom = (number / DIRECTIONS) as usize;
+        let atom = (number / Direction::COUNT) as usize;
         if atom >= at.cells.len() {
             return;
         }
-        let Some(direction) = Direction::from_number(number % DIRECTIONS) else {
+        let Ok(direction) = Direction::try_from(number % Direction::COUNT) else {
             return;
         };
         let cell = at.cells[atom];

@@ -1,5 +1,5 @@
 ghost use Rattle.std.specs.Prelude.{◌≡◌, Some};
-ghost use Rattle.pen.specs.Ink.{ink, Inked};
+ghost use Rattle.pen.specs.Ink.{Writes};
 ghost use Rattle.puzzle.specs.Game.{Played, Reached};
 ghost use Rattle.text.specs.Lines.{bytes};
 ghost use Rattle.ways.specs.Kinds.{Notation, Lawful};
@@ -45,7 +45,7 @@ pub trait Kind {
 
     /// Writes the line of an open move, without its line end.
     fn write_move(&self, at: &Self::Position, number: u32, pen: &mut Pen)
-        ensures wrote { Reached (notation self.now).game at.now → (q : Self.Position) → (notation self.now).game.move at.now number ≡ Some q → Inked ((notation self.now).line at.now number) (ink pen.old) (ink pen.new) }
+        ensures wrote { Reached (notation self.now).game at.now → (q : Self.Position) → (notation self.now).game.move at.now number ≡ Some q → Writes ((notation self.now).line at.now number) pen.old pen.new }
         ensures same { pen.new.out.ghost_name ≡ pen.old.out.ghost_name };
 
     ghost lawful: { (z : Self) → Lawful (notation z) };

@@ -1,5 +1,3 @@
-use Rattle.std.proofs.Common.{◌≡◌}
-use Rattle.pen.specs.Ink.{ink}
 use Rattle.text.specs.Lines.{join_lines}
 use Rattle.pictures.specs.Pictures.{shape}
 use Rattle.atoms_text.specs.Writing.{picture_lines}
@@ -9,5 +7,4 @@ use Rattle.atoms_text.proofs.writer.compose_picture.Given as goal
 
 abbrev pub invariant-loop-row : goal.invariant-loop-row
 invariant-loop-row l =
-    Leads (join_lines (picture_lines l.keyword (shape l.picture))) (lines_from l.keyword (shape l.picture) l.row) (ink l.initial.pen) (ink l.pen)
-    × (l.pen.out.ghost_name ≡ l.initial.pen.out.ghost_name)
+    Leads (join_lines (picture_lines l.keyword (shape l.picture))) (lines_from l.keyword (shape l.picture) l.row) l.initial.pen l.pen
