@@ -11,9 +11,6 @@ use molecules::Molecule;
 use pictures::Picture;
 use slides::{CellSet, slide};
 
-/// The moves of each atom, one for each direction.
-const DIRECTIONS: u32 = 4;
-
 impl AtomLevel {
     /// The board as it is drawn, with the atoms where they start.
     pub fn board(&self) -> Picture
@@ -59,11 +56,11 @@ impl AtomLevel {
         ensures plays { Played (moved (atoms self.now) position.now number) result into.old into.new }
         ensures exactly { MovesExactly (atoms self.now) position.now number }
     {
-        let atom = (number / DIRECTIONS) as usize;
+        let atom = (number / Direction::COUNT) as usize;
         if atom >= self.atoms {
             return false;
         }
-        let Some(direction) = Direction::from_number(number % DIRECTIONS) else {
+        let Ok(direction) = Direction::try_from(number % Direction::COUNT) else {
             return false;
         };
         let from = position.cells[atom] as usize;

@@ -11,7 +11,7 @@ returns-in_default-slide c =
     let p = c.args.position.now in
     let m = c.args.number in
     let there : m / 4 < count l = omega (arith, c.args.self.now.counted) in
-    let none = moved_by l p m _ _ _ _ there c.in-Some.ensures.named c.grid.ensures c.blocked-blocked.ensures c.in_default-slide.ensures.rests in
+    let none = moved_by l p m _ _ _ _ there c.in-Ok.ensures.named c.grid.ensures c.blocked-blocked.ensures c.in_default-slide.ensures.rests in
     record {
       plays = played_closed _ _ none;
       exactly = moves_exactly l (omega (arith, c.args.self.now.counted)) p m;
@@ -19,7 +19,7 @@ returns-in_default-slide c =
 
 pub overflow_cast-into : goal.overflow_cast-into
 overflow_cast-into c =
-    let inside = slid_inside _ _ _ _ _ _ (sym c.in-Some-slide.ensures.rests) in
+    let inside = slid_inside _ _ _ _ _ _ (sym c.in-Some.ensures.rests) in
     let small = cell_small c.args.self.now.board _ _ _ c.grid.ensures refl inside in
     omega (arith, small)
 
@@ -29,7 +29,7 @@ returns c =
     let p = c.args.position.now in
     let m = c.args.number in
     let there : m / 4 < count l = omega (arith, c.args.self.now.counted) in
-    let some = moved_by l p m _ _ _ _ there c.in-Some.ensures.named c.grid.ensures c.blocked-blocked.ensures c.in-Some-slide.ensures.rests in
+    let some = moved_by l p m _ _ _ _ there c.in-Ok.ensures.named c.grid.ensures c.blocked-blocked.ensures c.in-Some.ensures.rests in
     record {
       plays = played_open _ _ _ some;
       exactly = moves_exactly l (omega (arith, c.args.self.now.counted)) p m;
