@@ -2,7 +2,7 @@
 use Rattle.std.proofs.Common.{◌≡◌, ℕ, suc, ◌+◌, ◌-◌, ◌<◌, ◌≤◌, Bool, true, false, cond, List, [], ◌∷◌, ◌++◌, map, length, take, set, replicate, count_by, sym, refl, ap, ◌∙◌, append_assoc, arith, length-set}
 use Rattle.std.specs.List.{range_with_len}
 use Rattle.std.proofs.lemmas.List.FromFn.{fill_by_all, take-map-range_with_len}
-use Rattle.std.proofs.lemmas.List.{map_push, length_push, set_at, take_more_set}
+use Rattle.std.proofs.lemmas.List.{map_push, length-map, length_push, set_at, take_more_set}
 use Rattle.std.proofs.lemmas.List.Sums.{length-filter, sum_by-cons, sum_by-take-le}
 use Rattle.pictures.specs.declared.cell.Cell.{Cell}
 use Rattle.pictures.specs.declared.cell.Cell.TheVariants.{Wall, Free, Atom}
@@ -61,6 +61,10 @@ module _ (b : Shape) where
   -- there are as many atoms as cells that hold one
   pub length_atoms : length (atom_cells b) ≡ atom_count b
   length_atoms = length_before (length b.cells) ∙ ap (count_by is_atom) first_all
+
+  -- and as many labels
+  pub length_labels : length (labels_of b) ≡ atom_count b
+  length_labels = length-map (atom_cells b) label_on ∙ length_atoms
 
   -- no front of the board holds more
   before_few : (n : ℕ) → n ≤ length b.cells → length (atoms_before n) ≤ atom_count b

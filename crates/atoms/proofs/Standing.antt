@@ -10,7 +10,7 @@ use Rattle.atoms.specs.declared.position.Position.{Position}
 use Rattle.atoms.specs.Level.{Atoms, Valid, count, blocked, moved, game}
 use Rattle.atoms.specs.Moves.{atom_at}
 use Rattle.atoms.proofs.Blocking.{among_at}
-use Rattle.atoms.proofs.Finding.{found, atom_at_on, atom_at_from, found_first, found_below}
+use Rattle.atoms.proofs.Finding.{found, found_first, atom_at_on}
 use Rattle.atoms.proofs.Sliding.{grid_of, moved_open}
 use Rattle.atoms.proofs.Starting.{start_long, start_inside, start_apart}
 
@@ -108,15 +108,8 @@ atom_there l p stands a there wide =
     let same : (b : ℕ) → b < count l → get_or firsts b 0 ≡ get_or p.cells b 0 = λ b. get_or-take (count l) p.cells b 0 in
     atom_at_on l p (grid_of l) _ _ refl (div_below cell w h wide (omega (arith, mul_comm w h))) (mod_below cell w wide)
     ∙ ap (found l p) (div-add-mod' cell w)
-    ∙ found_first l 0 firsts a a cell (omega arith) (omega arith) (sym (same a there))
+    ∙ found_first l p cell a (omega arith) (sym (same a there))
     (λ b less e.
     let below : b < count l = omega arith in
     let one = stands.apart a b there below (e ∙ same b below) in
     omega arith)
-
--- what is found is an atom of the level
-pub atom_at_below : (l : Atoms) (p : Position) (r c a : ℕ) → atom_at l p r c ≡ Some a → a < count l
-atom_at_below l p r c a e =
-    let firsts = take (count l) p.cells in
-    let below = found_below l 0 firsts (at l.board.width r c) a (atom_at_from l p r c a e) in
-    omega (arith, below, length-take (count l) p.cells)

@@ -1,12 +1,14 @@
-ghost use Rattle.std.specs.Prelude.{◌≡◌, ℕ, Decides};
+ghost use Rattle.std.specs.Prelude.{◌≡◌, ℕ, take, Decides};
 ghost use Rattle.puzzle.specs.Game.{Played};
 ghost use Rattle.slides.specs.Sets.{has};
-ghost use Rattle.atoms.specs.Level.{atoms, game, blocked, moved, finished};
+ghost use Rattle.pictures.specs.Pictures.{shape};
+ghost use Rattle.atoms.specs.Board.{labels_of};
+ghost use Rattle.atoms.specs.Level.{atoms, count, game, blocked, moved, finished};
 ghost use Rattle.atoms.specs.Moves.{MovesExactly, Finished, atom_at};
 
 use super::AtomLevel;
 use crate::position::Position;
-use grid::Direction;
+use grid::{Direction, Grid};
 use molecules::Molecule;
 use pictures::Picture;
 use slides::{CellSet, slide};
@@ -40,17 +42,14 @@ impl AtomLevel {
     pub fn atom_at(&self, position: &Position, row: u32, column: u32) -> Option<u32>
         ensures { result ≡ atom_at (atoms self.now) position.now row column }
     {
-        let grid = self.board.grid();
-        if column >= grid.width as u32 || row >= grid.height as u32 {
+        let Grid { width, height } = self.board.grid();
+        if column >= u32::from(width) || row >= u32::from(height) {
             return None;
         }
-        let cell = row * grid.width as u32 + column;
-        for atom in 0..self.atoms {
-            if cell == position.cells[atom] as u32 {
-                return Some(atom as u32);
-            }
-        }
-        None
+        let cell = row * u32::from(width) + column;
+        let stands = self.standing(position);
+        let atom = stands.iter().position(|at| cell == u32::from(*at))?;
+        Some(atom as u32)
     }
 
     /// Plays move 4 × atom + direction: the atom slides up (0), down (1), left (2) or right (3). It answers whether the
@@ -60,15 +59,14 @@ impl AtomLevel {
         ensures exactly { MovesExactly (atoms self.now) position.now number }
     {
         let atom = (number / DIRECTIONS) as usize;
-        if atom >= self.atoms {
+        let Some(from) = self.standing(position).get(atom) else {
             return false;
-        }
+        };
         let Some(direction) = Direction::from_number(number % DIRECTIONS) else {
             return false;
         };
-        let from = position.cells[atom] as usize;
         let blocked = self.blocked(position);
-        let Some(cell) = slide(self.board.grid(), &blocked, from, direction) else {
+        let Some(cell) = slide(self.board.grid(), &blocked, usize::from(*from), direction) else {
             return false;
         };
         *into = *position;
@@ -81,11 +79,12 @@ impl AtomLevel {
         ensures says { result ≡ finished (atoms self.now) position.now }
         ensures decides { Decides result (Finished (atoms self.now) position.now) }
     {
+        let stands = self.standing(position);
+        let labels = self.labels();
         let mut found = false;
         'places: for place in self.places.as_slice() {
-            for atom in 0..self.atoms {
-                let (cell, label) = (position.cells[atom], self.labels[atom]);
-                if !self.molecule.wants(&self.board, *place, cell, label) {
+            for (cell, label) in stands.iter().zip(labels) {
+                if !self.molecule.wants(&self.board, *place, *cell, *label) {
                     continue 'places;
                 }
             }
@@ -100,9 +99,23 @@ impl AtomLevel {
         ensures { (k : ℕ) → has result k ≡ blocked (atoms self.now) position.now k }
     {
         let mut blocked = self.walls;
-        for atom in 0..self.atoms {
-            blocked.insert(position.cells[atom]);
+        for cell in self.standing(position) {
+            blocked.insert(*cell);
         }
         blocked
+    }
+
+    // The labels of the atoms, by number.
+    fn labels(&self) -> &[u8]
+        ensures { result.now ≡ labels_of (shape self.now.board) }
+    {
+        &self.labels[..self.atoms]
+    }
+
+    // The cells on which the atoms stand, by number.
+    fn standing<'a>(&self, position: &'a Position) -> &'a [u8]
+        ensures { result.now ≡ take (count (atoms self.now)) position.now.cells }
+    {
+        &position.cells[..self.atoms]
     }
 }
