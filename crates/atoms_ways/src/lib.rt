@@ -15,9 +15,6 @@ use pen::Pen;
 use text::Line;
 use ways::Kind;
 
-/// The moves of each atom, one for each direction.
-const DIRECTIONS: u32 = 4;
-
 /// The most atoms that a level may have.
 const MOST_ATOMS: u32 = 16;
 
@@ -46,7 +43,7 @@ fn read_line(line: Line) -> Option<AtomMove>
     if !rest.is_empty() || row >= THREE_DIGITS || column >= THREE_DIGITS {
         return None;
     }
-    let direction = Direction::from_word(spelled)?;
+    let direction = Direction::try_from(spelled).ok()?;
     Some(AtomMove {
         row,
         column,
@@ -79,7 +76,7 @@ impl Kind for AtomKind {
     ghost lawful = { λ z. Lawful.lawful (atoms z.0) (level_valid z.0) };
 
     fn moves(&self) -> u32 {
-        MOST_ATOMS * DIRECTIONS
+        MOST_ATOMS * Direction::COUNT
     }
 
     fn start(&self) -> Position {
@@ -100,15 +97,15 @@ impl Kind for AtomKind {
 
     fn move_number(&self, at: &Position, written: &AtomMove) -> Option<u32> {
         let atom = self.0.atom_at(at, written.row, written.column)?;
-        Some(atom * DIRECTIONS + written.direction.number())
+        Some(atom * Direction::COUNT + u32::from(written.direction))
     }
 
     fn write_move(&self, at: &Position, number: u32, pen: &mut Pen) {
-        let atom = (number / DIRECTIONS) as usize;
+        let atom = (number / Direction::COUNT) as usize;
         if atom >= at.cells.len() {
             return;
         }
-        let Some(direction) = Direction::from_number(number % DIRECTIONS) else {
+        let Ok(direction) = Direction::try_from(number % Direction::COUNT) else {
             return;
         };
         let cell = at.cells[atom];

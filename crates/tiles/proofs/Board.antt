@@ -1,12 +1,11 @@
 -- Positions and their tiles: packing and unpacking undo each other, and what one written cell does. Assumes nothing.
-use Rattle.std.proofs.Common.{◌≡◌, ℕ, zero, suc, ◌+◌, ◌*◌, ◌/◌, ◌%◌, ◌^◌, ◌<◌, ◌≤◌, leb, List, [], ◌∷◌, ◌++◌, length, get_or, take, set, Decides, sym, refl, ap, ◌∙◌, mul_assoc, div-lt_iff_lt-mul, mul_left_comm, arith}
+use Rattle.std.proofs.Common.{◌≡◌, ℕ, zero, suc, ◌+◌, ◌*◌, ◌/◌, ◌%◌, ◌^◌, ◌<◌, ◌≤◌, ◌↔◌, List, [], ◌∷◌, ◌++◌, length, get_or, take, set, sym, refl, ap, ◌∙◌, mul_assoc, div-lt_iff_lt-mul, mul_left_comm, arith}
 use Rattle.std.specs.List.{AllByRecursion as All}
 use native.Mathlib.Nat.{pow-succ', div-div-eq-div-mul}
 use lib.Bits.{bit_and}
 use Rattle.std.proofs.lemmas.Nat.{pow-add, pow_pos, and_mask, shl_whole, mul-le}
 use Rattle.std.proofs.ByRecursion.{All-set, All-get_or}
 use Rattle.std.proofs.lemmas.List.{length-set, get_or-set_other, get_or-take}
-use Rattle.std.proofs.lemmas.Bool.{leb-true, le-leb}
 use Rattle.tiles.specs.Board.{packed, unpacked, cells, swapped}
 
 -- fits the four bits of a cell
@@ -129,12 +128,12 @@ small_swapped ts b t ht small =
     All-set Small _ t 0 (omega arith) (All-set Small ts b _ (All-get_or Small ts t 0 ht small) small)
 
 -- what is left of a position above its first n cells is one more cell, or does not fit one
-pub fits_cell : (p n : ℕ) → Decides (leb (p / 2 ^ (4 * n)) 15) (p < 16 ^ suc n)
+pub fits_cell : (p n : ℕ) → (p / 2 ^ (4 * n) ≤ 15) ↔ (p < 16 ^ suc n)
 fits_cell p n =
     let power : 16 ^ suc n ≡ 16 * 2 ^ (4 * n) = pow-succ' 16 n ∙ ap (λ k. 16 * k) (pow_bits n) in
     let split = div-lt_iff_lt-mul {k = 2 ^ (4 * n)} {x = p} {y = 16} (pow_pos (4 * n)) in (
-      λ e. let below = split.0 (omega (arith, leb-true _ _ e)) in omega arith,
-      λ h. let below = split.1 (omega arith) in le-leb _ _ (omega arith),
+      λ h. let below = split.0 (omega arith) in omega arith,
+      λ h. let below = split.1 (omega arith) in omega arith,
     )
 
 -- a level's board has four to sixteen cells

@@ -13,9 +13,6 @@ use text::Line;
 use tiles::TileLevel;
 use ways::Kind;
 
-/// One move for each direction.
-const DIRECTIONS: u32 = 4;
-
 /// A tile level, as ways see it.
 #[derive(Clone, Copy)]
 pub struct TileKind(pub TileLevel);
@@ -40,7 +37,7 @@ impl Kind for TileKind {
     ghost lawful = { λ z. Lawful.lawful (tiles z.0) };
 
     fn moves(&self) -> u32 {
-        DIRECTIONS
+        Direction::COUNT
     }
 
     fn start(&self) -> u64 {
@@ -57,19 +54,18 @@ impl Kind for TileKind {
 
     fn read_move(&self, line: Line) -> Option<Direction> {
         let (spelled, rest) = forms::word(forms::arguments(line, b"move")?)?;
-        if rest.is_empty() {
-            Direction::from_word(spelled)
-        } else {
-            None
+        if !rest.is_empty() {
+            return None;
         }
+        Direction::try_from(spelled).ok()
     }
 
     fn move_number(&self, _at: &u64, written: &Direction) -> Option<u32> {
-        Some(written.number())
+        Some(u32::from(*written))
     }
 
     fn write_move(&self, _at: &u64, number: u32, pen: &mut Pen) {
-        if let Some(direction) = Direction::from_number(number) {
+        if let Ok(direction) = Direction::try_from(number) {
             write_direction(direction, pen);
         }
     }

@@ -8,13 +8,10 @@ ghost use Rattle.atoms.specs.Moves.{MovesExactly, Finished, atom_at};
 
 use super::AtomLevel;
 use crate::position::Position;
-use grid::{Direction, Grid};
+use grid::{Direction, Place};
 use molecules::Molecule;
 use pictures::Picture;
 use slides::{CellSet, slide};
-
-/// The moves of each atom, one for each direction.
-const DIRECTIONS: u32 = 4;
 
 impl AtomLevel {
     /// The board as it is drawn, with the atoms where they start.
@@ -38,17 +35,13 @@ impl AtomLevel {
         self.start
     }
 
-    /// The number of the atom that stands on the cell of this row and this column.
-    pub fn atom_at(&self, position: &Position, row: u32, column: u32) -> Option<u32>
-        ensures { result ≡ atom_at (atoms self.now) position.now row column }
+    /// The number of the atom that stands at a place of the board.
+    pub fn atom_at(&self, position: &Position, place: Place) -> Option<u32>
+        ensures { result ≡ atom_at (atoms self.now) position.now place }
     {
-        let Grid { width, height } = self.board.grid();
-        if column >= u32::from(width) || row >= u32::from(height) {
-            return None;
-        }
-        let cell = row * u32::from(width) + column;
-        let stands = self.standing(position);
-        let atom = stands.iter().position(|at| cell == u32::from(*at))?;
+        let cell = self.board.grid().cell(place)?;
+        let mut stands = self.standing(position).iter();
+        let atom = stands.position(|at| usize::from(*at) == cell)?;
         Some(atom as u32)
     }
 
@@ -58,20 +51,25 @@ impl AtomLevel {
         ensures plays { Played (moved (atoms self.now) position.now number) result into.old into.new }
         ensures exactly { MovesExactly (atoms self.now) position.now number }
     {
-        let atom = (number / DIRECTIONS) as usize;
-        let Some(from) = self.standing(position).get(atom) else {
+        let Some(after) = self.moved(position, number) else {
             return false;
         };
-        let Some(direction) = Direction::from_number(number % DIRECTIONS) else {
-            return false;
-        };
-        let blocked = self.blocked(position);
-        let Some(cell) = slide(self.board.grid(), &blocked, usize::from(*from), direction) else {
-            return false;
-        };
-        *into = *position;
-        into.cells[atom] = cell as u8;
+        *into = after;
         true
+    }
+
+    // The position after a move; none if the move is closed.
+    fn moved(&self, position: &Position, number: u32) -> Option<Position>
+        ensures { result ≡ moved (atoms self.now) position.now number }
+    {
+        let atom = (number / Direction::COUNT) as usize;
+        let from = *self.standing(position).get(atom)?;
+        let direction = Direction::try_from(number % Direction::COUNT).ok()?;
+        let blocked = self.blocked(position);
+        let cell = slide(self.board.grid(), &blocked, usize::from(from), direction)?;
+        let mut after = *position;
+        after.cells[atom] = cell as u8;
+        Some(after)
     }
 
     /// Whether on some goal place every atom stands on a cell of its label.

@@ -1,7 +1,7 @@
 use Rattle.std.proofs.Common.{sym, ◌∙◌, arith}
 use Rattle.tiles.proofs.Board.{few_cells}
 use Rattle.tiles.proofs.Walks.{blank_used}
-use Rattle.tiles.proofs.level.TileLevel.slide.Goals as goal
+use Rattle.tiles.proofs.level.TileLevel.moved.Goals as goal
 
 pub with_swapped-requires : goal.with_swapped-requires
 with_swapped-requires c =
