@@ -1,18 +1,16 @@
 ghost use Rattle.std.specs.Prelude.{◌≡◌, ℕ, ◌<◌};
 ghost use Rattle.text.specs.Lines.{bytes};
+ghost use Rattle.text.specs.Reading.{seen};
 ghost use Rattle.pictures.specs.Pictures.{shape};
 ghost use Rattle.molecules.specs.Molecules.{wanted, told as told_molecule};
 ghost use Rattle.atoms_text.specs.Reading.{begun, after_row, first_want, next_want, next, form_of, taken, finish, read_level, told, ReadsExactly};
-ghost use Rattle.atoms_text.specs.Reader.{said, view, told_option, told_want, told_at, told_reader};
+ghost use Rattle.atoms_text.specs.Reader.{said, view, told_option, told_want, told_at};
 
 use atoms::AtomLevel;
 use molecules::Molecule;
 use pictures::Picture;
 use refusals::{Fault, Refusal};
-use text::{Line, is_text, next_line};
-
-/// The most cells that a board or a molecule is wide and high.
-const LONGEST_SIDE: u32 = 16;
+use text::{Line, LineReader, ReadText, is_text, read_lines};
 
 /// The form of a line.
 #[derive(Clone, Copy)]
@@ -34,7 +32,7 @@ enum Reader {
     /// The line with the board's size.
     Head,
     /// A row of the board, and this many after it.
-    Rows(Picture, u8),
+    Rows(Picture, usize),
     /// The first row of the molecule.
     FirstWant(Picture),
     /// A further row of the molecule, or the closing bracket.
@@ -64,11 +62,12 @@ fn form_of<'a>(line: Line<'a>) -> Form<'a>
 fn begin(width: u32, height: u32) -> Option<Reader>
     ensures { told_option result ≡ begun width height }
 {
-    if !(1..=LONGEST_SIDE).contains(&height) {
+    let height = height as usize;
+    if !(1..=Picture::LONGEST_SIDE).contains(&height) {
         return None;
     }
     let board = Picture::new(width as usize)?;
-    Some(Reader::Rows(board, height as u8 - 1))
+    Some(Reader::Rows(board, height - 1))
 }
 
 // The first row of a molecule, which settles its width.
@@ -82,7 +81,7 @@ fn first_row(row: &[u8]) -> Option<Molecule>
 fn next_row(molecule: &Molecule, row: &[u8]) -> Result<Molecule, Fault>
     ensures { told_want result ≡ next_want (wanted molecule.now) row.now }
 {
-    if molecule.picture().grid().height as u32 >= LONGEST_SIDE {
+    if usize::from(molecule.picture().grid().height) >= Picture::LONGEST_SIDE {
         return Err(Fault::LineForm);
     }
     molecule.with_row(row).ok_or(Fault::BadWant)
@@ -90,7 +89,7 @@ fn next_row(molecule: &Molecule, row: &[u8]) -> Result<Molecule, Fault>
 
 impl Reader {
     // After a row of the board that this many follow.
-    fn after_row(board: Picture, more: u8) -> Reader
+    fn after_row(board: Picture, more: usize) -> Reader
         ensures { view result ≡ after_row (shape board) more }
     {
         if more == 0 {
@@ -105,7 +104,9 @@ impl Reader {
         ensures { (n : ℕ) → told_at n result ≡ next n (view self) (said form.entry) }
     {
         match (self, form) {
-            (Reader::Head, Form::Size(width, height)) => begin(width, height).ok_or(Fault::BoardSize),
+            (Reader::Head, Form::Size(width, height)) => begin(width, height).ok_or(
+                Fault::BoardSize,
+            ),
             (Reader::Rows(board, more), Form::Row(row)) => {
                 let board = board.with_row(row).ok_or(Fault::BadRow)?;
                 Ok(Reader::after_row(board, more))
@@ -123,31 +124,27 @@ impl Reader {
         }
     }
 
-    // Takes one line.
-    fn take(self, line: Line, number: usize) -> Result<Reader, Refusal>
-        ensures { told_reader result ≡ taken (view self) number (bytes line.entry) }
-    {
-        self.after(form_of(line)).map_err(|fault| Refusal {
-            fault,
-            line: number,
-        })
-    }
-
     // The level, once no line is left; `number` is the line that would come next.
     fn finish(self, number: usize) -> Result<AtomLevel, Refusal>
         requires { 0 < number }
         ensures { told result ≡ finish number (view self) }
     {
         match self {
-            Reader::End(board, molecule) => AtomLevel::new(&board, &molecule).map_err(|fault| Refusal {
-                fault,
-                line: number - 1,
-            }),
-            _ => Err(Refusal {
-                fault: Fault::LineForm,
-                line: number,
-            }),
+            Reader::End(board, molecule) => AtomLevel::new(&board, &molecule).map_err(
+                |fault| fault.at(number - 1),
+            ),
+            _ => Err(Fault::LineForm.at(number)),
         }
+    }
+}
+
+impl LineReader for Reader {
+    type Error = Refusal;
+
+    ghost Takes = { λ reader n line r. seen view r ≡ taken (view reader) n line };
+
+    fn take(self, line: Line, number: usize) -> Result<Reader, Refusal> {
+        self.after(form_of(line)).map_err(|fault| fault.at(number))
     }
 }
 
@@ -158,18 +155,8 @@ pub fn read_level(text: &[u8]) -> Result<AtomLevel, Refusal>
     ensures exactly { ReadsExactly text.now }
 {
     if !is_text(text) {
-        return Err(Refusal {
-            fault: Fault::NotText,
-            line: 0,
-        });
+        return Err(Fault::NotText.at(0));
     }
-    let mut reader = Reader::Head;
-    let mut at = 0;
-    let mut number = 1;
-    while let Some(line) = next_line(text, at) {
-        reader = reader.take(line, number)?;
-        at = line.text.len() + 1;
-        number += 1;
-    }
+    let ReadText { reader, number, .. } = read_lines(Reader::Head, text)?;
     reader.finish(number)
 }

@@ -45,7 +45,3 @@ told_option None = None
 abbrev pub told_at : ℕ → Result Reader Fault → Result Expect Refusal
 told_at n (Ok r) = Ok (view r)
 told_at n (Err f) = Err (refusal f n)
-
-abbrev pub told_reader : Result Reader Refusal → Result Expect Refusal
-told_reader (Ok r) = Ok (view r)
-told_reader (Err e) = Err e

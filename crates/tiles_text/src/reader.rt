@@ -1,17 +1,15 @@
 ghost use Rattle.std.specs.Prelude.{◌≡◌, ℕ, ◌*◌, ◌<◌};
 ghost use Rattle.text.specs.Lines.{bytes};
+ghost use Rattle.text.specs.Reading.{seen};
 ghost use Rattle.tiles.specs.Level.{packed_to};
 ghost use Rattle.tiles_text.specs.Reading.{form_of, numbers_in, begun, grown, next, taken, finish, read_level, told, ReadsExactly};
-ghost use Rattle.tiles_text.specs.Reader.{said, tiles_so_far, view, told_rows, told_option, told_at, told_reader};
+ghost use Rattle.tiles_text.specs.Reader.{said, tiles_so_far, view, told_rows, told_option, told_at};
 
 use crate::rows::{Board, Rows};
 use grid::Grid;
 use refusals::{Fault, Refusal};
-use text::{Line, is_text, next_line};
-use tiles::{TileLevel, is_side};
-
-/// The bits of a position that a cell takes.
-const CELL_BITS: usize = 4;
+use text::{Line, LineReader, ReadText, is_text, read_lines};
+use tiles::{BITS_PER_CELL, TileLevel, is_side};
 
 /// The form of a line.
 #[derive(Clone, Copy)]
@@ -83,7 +81,7 @@ impl Rows {
             if tile as usize >= self.grid.cells() {
                 return None;
             }
-            tiles += (tile as u64) << (CELL_BITS * column);
+            tiles += (tile as u64) << (BITS_PER_CELL * column);
             rest = after;
         }
         if rest.is_empty() { Some(tiles) } else { None }
@@ -95,7 +93,7 @@ impl Rows {
     {
         let tiles = self.read_row(row)?;
         let grid = self.grid;
-        let cells = self.cells + (tiles << (CELL_BITS * self.count));
+        let cells = self.cells + (tiles << (BITS_PER_CELL * self.count));
         if self.due == 1 {
             return Some(Reader::Close(Board { grid, cells }));
         }
@@ -124,31 +122,27 @@ impl Reader {
         }
     }
 
-    // Takes one line.
-    fn take(self, line: Line, number: usize) -> Result<Reader, Refusal>
-        ensures { told_reader result ≡ taken (view self) number (bytes line.entry) }
-    {
-        self.after(form_of(line)).map_err(|fault| Refusal {
-            fault,
-            line: number,
-        })
-    }
-
     // The level, once no line is left; `number` is the line that would come next.
     fn finish(self, number: usize) -> Result<TileLevel, Refusal>
         requires { 0 < number }
         ensures { told result ≡ finish number (view self) }
     {
         match self {
-            Reader::End(board) => TileLevel::new(board.grid, board.cells).ok_or(Refusal {
-                fault: Fault::TileNumbers,
-                line: number - 1,
-            }),
-            _ => Err(Refusal {
-                fault: Fault::LineForm,
-                line: number,
-            }),
+            Reader::End(board) => TileLevel::new(board.grid, board.cells).ok_or(
+                Fault::TileNumbers.at(number - 1),
+            ),
+            _ => Err(Fault::LineForm.at(number)),
         }
+    }
+}
+
+impl LineReader for Reader {
+    type Error = Refusal;
+
+    ghost Takes = { λ reader n line r. seen view r ≡ taken (view reader) n line };
+
+    fn take(self, line: Line, number: usize) -> Result<Reader, Refusal> {
+        self.after(form_of(line)).map_err(|fault| fault.at(number))
     }
 }
 
@@ -158,18 +152,8 @@ pub fn read_level(text: &[u8]) -> Result<TileLevel, Refusal>
     ensures exactly { ReadsExactly text.now }
 {
     if !is_text(text) {
-        return Err(Refusal {
-            fault: Fault::NotText,
-            line: 0,
-        });
+        return Err(Fault::NotText.at(0));
     }
-    let mut reader = Reader::Head;
-    let mut at = 0;
-    let mut number = 1;
-    while let Some(line) = next_line(text, at) {
-        reader = reader.take(line, number)?;
-        at = line.text.len() + 1;
-        number += 1;
-    }
+    let ReadText { reader, number, .. } = read_lines(Reader::Head, text)?;
     reader.finish(number)
 }

@@ -1,4 +1,4 @@
-use Rattle.std.proofs.Common.{sym, ap, ◌∙◌}
+use Rattle.std.proofs.Common.{ok_or, sym, ap, ◌∙◌}
 use Rattle.tiles_text.specs.Reading.{told, finish}
 use Rattle.tiles_text.specs.Reader.{view}
 use Rattle.tiles_text.proofs.Judging.{finish_judged}
@@ -6,6 +6,6 @@ use Rattle.tiles_text.proofs.reader.Reader.finish.Goals as goal
 
 pub returns-in-End : goal.returns-in-End
 returns-in-End c =
-    ap told c.ok_or.ensures.value
+    ap told (c.ok_or.ensures.value ∙ ap (ok_or c.new.result) c.at.ensures)
     ∙ finish_judged c.in-End.board c.args.number c.new.result c.new.ensures
     ∙ ap (λ r. finish c.args.number (view r)) (sym c.in-End.is)
