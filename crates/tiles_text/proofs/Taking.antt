@@ -1,6 +1,7 @@
 -- A row that is taken by a reader. Assumes nothing.
 use Rattle.std.proofs.Common.{◌≡◌, ℕ, ◌+◌, ◌-◌, ◌*◌, ◌%◌, ◌^◌, ◌<◌, ◌≤◌, List, Some, None, Ok, Option, sym, refl, ap, ◌∙◌, subst, add-mul, arith}
 use Rattle.std.proofs.ByRecursion.{All-weaker}
+use Rattle.std.proofs.lemmas.List.Elements.{All-from_recursion}
 use Rattle.std.proofs.lemmas.Bool.{cond-true, cond-false, eq-eqb, ne_eqb}
 use Rattle.text.proofs.Cases.{never}
 use Rattle.tiles.specs.Board.{packed, unpacked}
@@ -71,7 +72,7 @@ module _ (r : Reader) (n left v : ℕ) (l x : List ℕ) (is : r.expected ≡ Row
       let spelled = numbers_only (w * h) w x numbers.0 numbers.1 in
       let most = few in
       added r.cells r.count w v numbers.0 begun.1.below room spelled.size
-      (All-weaker (λ k. k < w * h) Small (λ k small. omega arith) numbers.0 spelled.below) numbers.2
+      (All-from_recursion Small _ (All-weaker (λ k. k < w * h) Small (λ k small. omega arith) numbers.0 spelled.below)) numbers.2
 
   row_taken : taken (view r) n l ≡ Ok (after_row w h left (unpacked (r.count + w) (grown r v Close).cells))
   row_taken =
