@@ -9,7 +9,7 @@ pub(crate) type Said = (u32, usize);
 pub(crate) fn said(answer: Result<usize, Refusal>) -> Said {
     match answer {
         Ok(count) => (0, count),
-        Err(refusal) => (refusal.fault.number(), refusal.line),
+        Err(refusal) => (u32::from(refusal.fault), refusal.line),
     }
 }
 

@@ -1,8 +1,8 @@
 //! How moves of atom levels are written: `(move 0 2 right)` slides the atom on row 0 and column 2 to the right.
 #![tactic(auto)]
 
-ghost use Rattle.std.specs.Prelude.{◌≡◌, ◌<◌};
-ghost use Rattle.pen.specs.Ink.{ink, Inked};
+ghost use Rattle.std.specs.Prelude.{◌≡◌, refl, ◌<◌};
+ghost use Rattle.pen.specs.Ink.{Writes};
 ghost use Rattle.text.specs.Lines.{bytes};
 ghost use Rattle.atoms.specs.Level.{atoms};
 ghost use Rattle.atoms_ways.specs.Moves.{move_in, move_text, atom_notation};
@@ -53,9 +53,7 @@ fn read_line(line: Line) -> Option<AtomMove>
 
 // Writes the line `(move R C DIRECTION)`.
 fn write_line(written: AtomMove, pen: &mut Pen)
-    requires { (written.row < 256) × (written.column < 256) }
-    ensures wrote { Inked (move_text written) (ink pen.old) (ink pen.new) }
-    ensures same { pen.new.out.ghost_name ≡ pen.old.out.ghost_name }
+    ensures { Writes (move_text written) pen.old pen.new }
 {
     pen.put(b"(move ");
     pen.put_decimal(written.row);
@@ -71,13 +69,15 @@ impl Kind for AtomKind {
 
     type Written = AtomMove;
 
+    const MOVES: u32 = MOST_ATOMS * Direction::COUNT;
+
+    ghost MOVES = { 64 };
+
     ghost notation = { λ z. atom_notation (atoms z.0) };
 
-    ghost lawful = { λ z. Lawful.lawful (atoms z.0) (level_valid z.0) };
+    ghost counted = { λ _. refl };
 
-    fn moves(&self) -> u32 {
-        MOST_ATOMS * Direction::COUNT
-    }
+    ghost lawful = { λ z. Lawful.lawful (atoms z.0) (level_valid z.0) };
 
     fn start(&self) -> Position {
         self.0.start()

@@ -16,7 +16,7 @@ mod tests {
     fn said(answer: Result<usize, Refusal>) -> Said {
         match answer {
             Ok(count) => (0, count),
-            Err(refusal) => (refusal.fault.number(), refusal.line),
+            Err(refusal) => (u32::from(refusal.fault), refusal.line),
         }
     }
 

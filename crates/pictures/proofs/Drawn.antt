@@ -1,16 +1,23 @@
 -- The characters that draw cells, and the cells that they draw. Assumes nothing.
-use Rattle.std.proofs.Common.{◌≡◌, ℕ, zero, suc, ◌+◌, ◌≤◌, true, List, [], ◌∷◌, ◌++◌, map, length, take, drop, Some, None, Option, refl, ap, ◌∙◌, subst, arith}
+use Rattle.std.proofs.Common.{◌≡◌, ℕ, zero, suc, ◌+◌, ◌≤◌, true, List, [], ◌∷◌, ◌++◌, map, length, take, drop, Some, None, Ok, Err, Option, Result, sym, refl, ap, ◌∙◌, subst, arith}
+use Rattle.std.specs.Result.{result_ok}
 use Rattle.std.proofs.lemmas.List.{get_or-drop}
 use Rattle.std.proofs.lemmas.Bool.Decides.{nat_tests}
 use Rattle.pictures.specs.declared.cell.Cell.{Cell}
 use Rattle.pictures.specs.declared.cell.Cell.TheVariants.{Wall, Free, Atom}
-use Rattle.pictures.specs.Cells.{symbol_of, cell_of, cells_of, lettered, Lettered, DrawsOne, DrawnBack}
+use Rattle.pictures.specs.declared.cell.UnknownSymbol.{UnknownSymbol}
+use Rattle.pictures.specs.Cells.{symbol_of, cell_of, cells_of, lettered, Lettered, Draws, DrawsOne, DrawnBack}
 
 -- a character draws a lettered cell, and is the one that draws it
 pub draws_one : (c : ℕ) → DrawsOne c
 draws_one c Wall e = (refl, grind (arith, nat_tests))
 draws_one c Free e = (refl, grind (arith, nat_tests))
 draws_one c (Atom label) e = (grind (arith, nat_tests), grind (arith, nat_tests))
+
+-- what a character draws, without the error
+pub drawn : (c : ℕ) (o : Option Cell) (r : Result Cell UnknownSymbol) → Draws c r → o ≡ result_ok r → o ≡ cell_of c
+drawn c o (Ok x) d e = e ∙ sym d
+drawn c o (Err u) d e = e ∙ sym d.1
 
 -- a letter draws its atom
 atom_drawn : (c : ℕ) → lettered (Atom c) ≡ true → cell_of c ≡ Some (Atom c)

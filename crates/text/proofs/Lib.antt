@@ -6,3 +6,4 @@ pub mod Lines
 pub mod Texts
 pub mod Scanning
 pub mod Reading
+pub mod Taking

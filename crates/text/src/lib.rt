@@ -3,9 +3,12 @@
 
 mod line;
 mod number;
+mod numbered;
 mod pieces;
+mod reader;
 mod run;
 
 pub use line::{Line, is_text, next_line};
 pub use pieces::{Piece, Token};
+pub use reader::{LineReader, ReadText, read_lines};
 pub use run::{ByteClass, run_end};

@@ -1,8 +1,8 @@
 //! How moves of tile levels are written: `(move up)` sends the blank up.
 #![tactic(auto)]
 
-ghost use Rattle.std.specs.Prelude.{◌≡◌};
-ghost use Rattle.pen.specs.Ink.{ink, Inked};
+ghost use Rattle.std.specs.Prelude.{◌≡◌, refl};
+ghost use Rattle.pen.specs.Ink.{Writes};
 ghost use Rattle.tiles.specs.Level.{tiles};
 ghost use Rattle.tiles_ways.specs.Moves.{direction_line, tile_notation};
 ghost use Rattle.tiles_ways.specs.Lawful;
@@ -19,8 +19,7 @@ pub struct TileKind(pub TileLevel);
 
 // Writes the line `(move DIRECTION)`.
 fn write_direction(direction: Direction, pen: &mut Pen)
-    ensures wrote { Inked (direction_line direction) (ink pen.old) (ink pen.new) }
-    ensures same { pen.new.out.ghost_name ≡ pen.old.out.ghost_name }
+    ensures { Writes (direction_line direction) pen.old pen.new }
 {
     pen.put(b"(move ");
     pen.put(direction.word());
@@ -32,13 +31,15 @@ impl Kind for TileKind {
 
     type Written = Direction;
 
+    const MOVES: u32 = Direction::COUNT;
+
+    ghost MOVES = { 4 };
+
     ghost notation = { λ z. tile_notation (tiles z.0) };
 
-    ghost lawful = { λ z. Lawful.lawful (tiles z.0) };
+    ghost counted = { λ _. refl };
 
-    fn moves(&self) -> u32 {
-        Direction::COUNT
-    }
+    ghost lawful = { λ z. Lawful.lawful (tiles z.0) };
 
     fn start(&self) -> u64 {
         self.0.start()

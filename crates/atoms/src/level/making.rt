@@ -73,7 +73,7 @@ fn call_roll(board: &Picture) -> Roll
 fn walls_of(board: &Picture) -> CellSet
     ensures { (k : ℕ) → has result k ≡ wall_at (shape board.now) k }
 {
-    let mut walls = CellSet::empty();
+    let mut walls = CellSet::default();
     for place in 0..board.grid().cells() {
         if let Cell::Wall = board.cell(place) {
             walls.insert(place as u8);
