@@ -1,4 +1,4 @@
-ghost use Rattle.std.specs.Prelude.{◌≡◌, ◌*◌, ◌<◌, [], ◌∷◌, ◌++◌, take, drop, Ok};
+ghost use Rattle.std.specs.Prelude.{◌≡◌, [], ◌∷◌, ◌++◌, Ok};
 ghost use Rattle.pen.specs.Ink.{Writes, put};
 ghost use Rattle.text.specs.Lines.{join_lines};
 ghost use Rattle.pictures.specs.Pictures.{shape};
@@ -8,7 +8,7 @@ ghost use Rattle.atoms_text.specs.Writing.{drawn_line, picture_lines, level_text
 
 use atoms::AtomLevel;
 use pen::{Compose, Pen, write_text};
-use pictures::Picture;
+use pictures::{Cell, Picture};
 use refusals::{Fault, Refusal};
 
 /// Writes the text of a level at the front of `out`, and answers its length. If it does not fit, `out` stays as it was.
@@ -46,23 +46,21 @@ impl<'a> Compose for LevelText<'a> {
 fn compose_picture(keyword: &[u8], picture: &Picture, pen: &mut Pen)
     ensures { Writes (join_lines (picture_lines keyword.now (shape picture.now))) pen.old pen.new }
 {
-    for row in 0..usize::from(picture.grid().height) {
-        compose_row(keyword, picture, row, pen);
+    let width = usize::from(picture.grid().width);
+    for row in picture.cells().chunks(width) {
+        compose_row(keyword, row, pen);
     }
 }
 
-// The line `(KEYWORD X)` of one row.
-fn compose_row(keyword: &[u8], picture: &Picture, row: usize, pen: &mut Pen)
-    requires { row < (shape picture.now).height }
-    ensures { Writes (drawn_line keyword.now (take (shape picture.now).width (drop ((shape picture.now).width * row) (shape picture.now).cells)) ++ (10 ∷ [])) pen.old pen.new }
+// The line `(KEYWORD X)` of a row of these cells.
+fn compose_row(keyword: &[u8], row: &[Cell], pen: &mut Pen)
+    ensures { Writes (drawn_line keyword.now row.now ++ (10 ∷ [])) pen.old pen.new }
 {
-    let width = usize::from(picture.grid().width);
     pen.put(b"(");
     pen.put(keyword);
     pen.put(b" ");
-    for column in 0..width {
-        let symbol = u8::from(picture.cell(width * row + column));
-        pen.put(&[symbol]);
+    for cell in row {
+        pen.put(&[u8::from(*cell)]);
     }
     pen.put(b")\n");
 }

@@ -1,7 +1,7 @@
 //! How moves of atom levels are written: `(move 0 2 right)` slides the atom on row 0 and column 2 to the right.
 #![tactic(auto)]
 
-ghost use Rattle.std.specs.Prelude.{◌≡◌, ◌<◌};
+ghost use Rattle.std.specs.Prelude.{◌≡◌, refl, ◌<◌};
 ghost use Rattle.pen.specs.Ink.{Writes};
 ghost use Rattle.text.specs.Lines.{bytes};
 ghost use Rattle.atoms.specs.Level.{atoms};
@@ -69,13 +69,15 @@ impl Kind for AtomKind {
 
     type Written = AtomMove;
 
+    const MOVES: u32 = MOST_ATOMS * Direction::COUNT;
+
+    ghost MOVES = { 64 };
+
     ghost notation = { λ z. atom_notation (atoms z.0) };
 
-    ghost lawful = { λ z. Lawful.lawful (atoms z.0) (level_valid z.0) };
+    ghost counted = { λ _. refl };
 
-    fn moves(&self) -> u32 {
-        MOST_ATOMS * Direction::COUNT
-    }
+    ghost lawful = { λ z. Lawful.lawful (atoms z.0) (level_valid z.0) };
 
     fn start(&self) -> Position {
         self.0.start()

@@ -1,7 +1,7 @@
 //! How moves of tile levels are written: `(move up)` sends the blank up.
 #![tactic(auto)]
 
-ghost use Rattle.std.specs.Prelude.{◌≡◌};
+ghost use Rattle.std.specs.Prelude.{◌≡◌, refl};
 ghost use Rattle.pen.specs.Ink.{Writes};
 ghost use Rattle.tiles.specs.Level.{tiles};
 ghost use Rattle.tiles_ways.specs.Moves.{direction_line, tile_notation};
@@ -14,7 +14,7 @@ use tiles::TileLevel;
 use ways::Kind;
 
 /// A tile level, as ways see it.
-#[derive(Clone, Copy)]
+#[derive(Clone, Copy, Debug)]
 pub struct TileKind(pub TileLevel);
 
 // Writes the line `(move DIRECTION)`.
@@ -31,13 +31,15 @@ impl Kind for TileKind {
 
     type Written = Direction;
 
+    const MOVES: u32 = Direction::COUNT;
+
+    ghost MOVES = { 4 };
+
     ghost notation = { λ z. tile_notation (tiles z.0) };
 
-    ghost lawful = { λ z. Lawful.lawful (tiles z.0) };
+    ghost counted = { λ _. refl };
 
-    fn moves(&self) -> u32 {
-        Direction::COUNT
-    }
+    ghost lawful = { λ z. Lawful.lawful (tiles z.0) };
 
     fn start(&self) -> u64 {
         self.0.start()

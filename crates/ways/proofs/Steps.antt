@@ -19,10 +19,10 @@ module _ {P : Type 0} (g : Game P) where
   pub reached_more : (p q : P) (m : ℕ) → Reached g p → m < g.count → g.move p m ≡ Some q → Reached g q
   reached_more p q m r lt e = (r.0 ++ m ∷ [], one_more g.start p q r.0 m r.1 lt e)
 
--- what `play` answered, read back
-pub played_open : {P : Type 0} (o : Option P) (old new : P) → Played o true old new → o ≡ Some new
-played_open (Some q) old new h = ap Some (sym h.1)
-played_open None old new h = absurd (true≢false h.0)
+-- where `play` says that a move is open, it leads to what was filled in
+pub played_open : {P : Type 0} (o : Option P) {b : Bool} (old new : P) → b ≡ true → Played o b old new → o ≡ Some new
+played_open (Some q) old new e h = ap Some (sym h.1)
+played_open None old new e h = absurd (true≢false (sym e ∙ h.0))
 
 -- a number that is below the count leads where its move leads
 pub opened_below : {P W : Type 0} (k : Notation P W) (p : P) (m : ℕ) → m < k.game.count → opened k p m ≡ k.game.move p m

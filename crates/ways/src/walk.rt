@@ -1,9 +1,11 @@
-ghost use Rattle.std.specs.Prelude.{◌≡◌, MatchOption, MatchResult};
+ghost use Rattle.std.specs.Prelude.{◌≡◌, IsSome, MatchOption, MatchResult};
+ghost use Rattle.pen.specs.Ink.{Writes};
 ghost use Rattle.puzzle.specs.Game.{Reached};
 ghost use Rattle.ways.specs.Judging.{followed};
 ghost use Rattle.ways.specs.Writing.{opened};
 
 use crate::kind::Kind;
+use pen::Pen;
 use refusals::{Fault, Refusal};
 
 /// A position that legal moves of a level lead to.
@@ -44,7 +46,7 @@ impl<'a, K: Kind> Walk<'a, K> {
     pub(crate) fn play(&self, number: u32) -> Option<Self>
         ensures { let leads = opened (K.Kind.notation self.now.kind.now) self.now.position number in MatchOption result (leads ≡ None) (λ next. (leads ≡ Some next.position) × (next.kind ≡ self.now.kind)) }
     {
-        if number >= self.kind.moves() {
+        if number >= K::MOVES {
             return None;
         }
         let mut position = self.position;
@@ -55,6 +57,13 @@ impl<'a, K: Kind> Walk<'a, K> {
             kind: self.kind,
             position,
         })
+    }
+
+    /// Writes the line of a move that is open, without its line end.
+    pub(crate) fn write_move(&self, number: u32, pen: &mut Pen)
+        ensures { let k = K.Kind.notation self.now.kind.now in IsSome (opened k self.now.position number) → Writes (k.line self.now.position number) pen.old pen.new }
+    {
+        self.kind.write_move(&self.position, number, pen);
     }
 
     /// Where a move leads that is written on a line, or why it is refused.

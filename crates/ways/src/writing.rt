@@ -1,8 +1,7 @@
 ghost use Rattle.std.specs.Prelude.{◌≡◌, Ok, Err};
 ghost use Rattle.pen.specs.Ink.{Writes};
-ghost use Rattle.puzzle.specs.Game.{Played, Reached};
 ghost use Rattle.text.specs.Lines.{join_lines};
-ghost use Rattle.ways.specs.Writing.{opened, checked, Playable, move_lines, way_text, written, laid, WritesAccepted};
+ghost use Rattle.ways.specs.Writing.{checked, Playable, move_lines, way_text, written, laid, WritesAccepted};
 
 use crate::kind::Kind;
 use crate::walk::Walk;
@@ -14,17 +13,6 @@ const MOST_MOVES: usize = 9_999_999;
 
 /// The line of the first move of a way; the head stands before it.
 const FIRST_MOVE_LINE: usize = 2;
-
-/// Plays a move number: says whether there is such a move and it is open, and if so goes where it leads.
-fn play_on<P: Copy, K: Kind<Position = P>>(kind: &K, position: &mut P, number: u32) -> bool
-    ensures { Reached (K.Kind.notation kind.now).game position.old → Played (opened (K.Kind.notation kind.now) position.old number) result position.old position.new }
-{
-    if number >= kind.moves() {
-        return false;
-    }
-    let from = *position;
-    kind.play(&from, number, position)
-}
 
 /// Refuses the first move that is closed, with the line that it would have.
 fn check_moves<K: Kind>(kind: &K, moves: &[u32]) -> Result<(), Refusal>
@@ -52,14 +40,14 @@ impl<'a, K: Kind> WayText<'a, K> {
     fn compose_moves(&self, pen: &mut Pen)
         ensures { let k = K.Kind.notation self.now.kind.now in Writes (join_lines (move_lines k k.game.start self.now.moves.now)) pen.old pen.new }
     {
-        let mut position = self.kind.start();
+        let mut walk = Walk::start(self.kind);
         for number in self.moves {
-            let at = position;
-            self.kind.write_move(&at, *number, pen);
-            pen.put(b"\n");
-            if !play_on(self.kind, &mut position, *number) {
+            let Some(next) = walk.play(*number) else {
                 return;
-            }
+            };
+            walk.write_move(*number, pen);
+            pen.put(b"\n");
+            walk = next;
         }
     }
 }
@@ -80,11 +68,7 @@ impl<'a, K: Kind> Compose for WayText<'a, K> {
 ///
 /// A closed move is refused first, with the line that it would have; then a text that does not fit, or a way of more
 /// than 9,999,999 moves. A refusal leaves the buffer as it was.
-pub fn write_way<P: Copy, K: Kind<Position = P>>(
-    kind: &K,
-    moves: &[u32],
-    out: &mut [u8],
-) -> Result<usize, Refusal>
+pub fn write_way<K: Kind>(kind: &K, moves: &[u32], out: &mut [u8]) -> Result<usize, Refusal>
     ensures after { out.new ≡ laid (K.Kind.notation kind.now) moves.now out.old }
     ensures answers { result ≡ written (K.Kind.notation kind.now) moves.now out.old }
     ensures accepted { WritesAccepted (K.Kind.notation kind.now) moves.now }

@@ -9,6 +9,6 @@ use Rattle.tiles_text.proofs.writer.write_level.Goals as goal
 pub returns : goal.returns
 returns c = record {
   after = c.write_text.ensures.after;
-  answers = counted (refusal NoRoom 0) (level_text (tiles c.args.level.now)) c.args.out.now c.ok_or.ensures.value c.write_text.ensures.answers;
+  answers = counted (refusal NoRoom 0) (level_text (tiles c.args.level.now)) c.args.out.now (rw c.at.ensures at c.ok_or.ensures.value) c.write_text.ensures.answers;
   reads = reads_back c.args.level.now;
 }

@@ -20,6 +20,6 @@ returns g c =
     let few = c.if-moves-gt-MOST_MOVES.false in
     record {
       after = c.write_text.ensures.after ∙ way_laid k ms all few out;
-      answers = way_written k ms all few out (counted (refusal NoRoom 0) (way_text k ms) out c.ok_or.ensures.value c.write_text.ensures.answers);
+      answers = way_written k ms all few out (counted (refusal NoRoom 0) (way_text k ms) out (rw c.at-2.ensures at c.ok_or.ensures.value) c.write_text.ensures.answers);
       accepted = writes_accepted k (g.met.K.Kind.lawful c.args.kind.now) ms;
     }

@@ -1,6 +1,5 @@
 use Rattle.std.proofs.Common.{◌≡◌, ◌+◌, drop}
 use Rattle.pen.proofs.Ink.{Leads}
-use Rattle.puzzle.specs.Game.{Reached}
 use Rattle.text.specs.Lines.{join_lines}
 use Rattle.ways.specs.Writing.{played_from, move_lines}
 use Rattle.ways.proofs.writing.WayText.compose_moves.Given as goal
@@ -11,7 +10,7 @@ invariant-loop-number g l =
     let ms = l.self.moves.now in
     let left = drop l.number-index ms in
     record {
-      plays : played_from k l.position (l.number-index + 2) left ≡ played_from k k.game.start 2 ms;
-      reached : Reached k.game l.position;
-      wrote : Leads (join_lines (move_lines k k.game.start ms)) (join_lines (move_lines k l.position left)) l.initial.pen l.pen;
+      plays : played_from k l.walk.position (l.number-index + 2) left ≡ played_from k k.game.start 2 ms;
+      same : l.walk.kind ≡ l.self.kind;
+      wrote : Leads (join_lines (move_lines k k.game.start ms)) (join_lines (move_lines k l.walk.position left)) l.initial.pen l.pen;
     }
