@@ -7,7 +7,7 @@ ghost use Rattle.text.specs.Lines.{bytes};
 ghost use Rattle.text.specs.Pieces.{told_number, told_word, told_rest};
 ghost use Rattle.forms.specs.Forms.{open_in, after_blank, number_in, short_number_in, plain_word_in, word_in, keyword_in, count_of, size_of, inside, enclosed, arguments_of, content_of, told_bytes, is_closing, FormsHold, ContentHolds};
 
-use text::{ByteClass, Line, Piece, Token, run_end};
+use text::{ByteClass, Line, Token, run_end};
 
 /// Numbers from here on have more than two digits.
 const THREE_DIGITS: u32 = 100;
@@ -42,14 +42,8 @@ fn after_blank<'a>(line: Line<'a>) -> Option<Line<'a>>
 pub fn number<'a>(line: Line<'a>) -> Option<(u32, Line<'a>)>
     ensures { told_number result ≡ number_in (bytes line.entry) }
 {
-    let (
-        Piece {
-            token: Token::Number(n),
-            ..
-        },
-        rest,
-    ) = after_blank(line)?.piece()?
-    else {
+    let (piece, rest) = after_blank(line)?.piece()?;
+    let Token::Number(n) = piece.token else {
         return None;
     };
     Some((n, rest))
@@ -65,14 +59,8 @@ pub fn short_number<'a>(line: Line<'a>) -> Option<(u32, Line<'a>)>
 fn plain_word<'a>(line: Line<'a>) -> Option<(&'a [u8], Line<'a>)>
     ensures { told_word result ≡ plain_word_in (bytes line.entry) }
 {
-    let (
-        Piece {
-            token: Token::Word(word),
-            ..
-        },
-        rest,
-    ) = line.piece()?
-    else {
+    let (piece, rest) = line.piece()?;
+    let Token::Word(word) = piece.token else {
         return None;
     };
     Some((word, rest))
@@ -88,14 +76,8 @@ pub fn word<'a>(line: Line<'a>) -> Option<(&'a [u8], Line<'a>)>
 fn after_open<'a>(line: Line<'a>) -> Option<Line<'a>>
     ensures { told_rest result ≡ open_in (bytes line.entry) }
 {
-    let (
-        Piece {
-            token: Token::Open,
-            ..
-        },
-        rest,
-    ) = line.piece()?
-    else {
+    let (piece, rest) = line.piece()?;
+    let Token::Open = piece.token else {
         return None;
     };
     Some(rest)
