@@ -2,7 +2,7 @@
 use Rattle.std.proofs.Common.{◌≡◌, ℕ, ◌+◌, ◌<◌, ◌≤◌, Bool, true, false, ◌||◌, List, length, get_or, take, drop, Decides, sym, refl, ap, ◌∙◌, subst}
 use Rattle.std.proofs.lemmas.List.Elements.{Contains-get_or, at_from_Contains}
 use Rattle.std.proofs.lemmas.List.{at_drop_more, at_drop_all, get_or-take}
-use Rattle.std.proofs.lemmas.Bool.Decides.{Decides-by_or, Decides-like}
+use Rattle.std.proofs.lemmas.Bool.Decides.{Decides-at, Decides-by_or, Decides-like}
 use Rattle.molecules.specs.Below.{every_below}
 use Rattle.molecules.specs.Places.{goal_places, wants, Wanted}
 use Rattle.molecules.proofs.Below.{every_below_lem, every_below_from, every_below_not, every_below_more}
@@ -26,11 +26,10 @@ module _ (l : Atoms) (p : Position) where
   abbrev pub NoneFits : List ℕ → ℕ → Type 0
   NoneFits places n = some_fit l p (drop n places) ≡ some_fit l p places
 
-  -- what the molecule answers of an atom, where the first n of these are the labels
-  pub fits_by : (place a n : ℕ) (labels : List ℕ) (r : Bool) → take n labels ≡ labels_of l.board → a < n → r ≡ wants l.board l.molecule place (get_or p.cells a 0) (get_or labels a 0) → fits_at place a ≡ r
-  fits_by place a n labels r same h e =
-      let label = sym (ap (λ xs. get_or xs a 0) same) ∙ get_or-take n labels a 0 h in
-      ap (wants l.board l.molecule place (get_or p.cells a 0)) label ∙ sym e
+  -- what the molecule answers of the cell and the label of an atom
+  pub fits_by : (place a cell label : ℕ) (r : Bool) → a < count l → cell ≡ get_or (take (count l) p.cells) a 0 → label ≡ get_or (labels_of l.board) a 0 → r ≡ wants l.board l.molecule place cell label → fits_at place a ≡ r
+  fits_by place a cell label r there stands labelled e =
+      let here : cell ≡ get_or p.cells a 0 = stands ∙ get_or-take (count l) p.cells a 0 there in cc
 
   -- the steps of a walk over the atoms
   pub fits_more : (place a : ℕ) → FitsBefore place a → fits_at place a ≡ true → FitsBefore place (a + 1)
@@ -68,7 +67,7 @@ module _ (l : Atoms) (p : Position) where
     )
 
     -- the test says whether the position is finished
-    pub finished_exactly : Decides (finished l p) (Finished l p)
+    finished_exactly : Decides (finished l p) (Finished l p)
     finished_exactly =
         let places = goal_places l.board l.molecule in
         let lists = lists_exactly l.board l.molecule in
@@ -80,3 +79,7 @@ module _ (l : Atoms) (p : Position) where
         let at = at_from_Contains places f.place ((lists f.place).1 (f.inside, f.goal)) in
         (at.0, at.1, λ d. subst AllWanted (sym (at.2 d)) f.fits))
         (Decides-by_or (fits l p) AllWanted (some_fit l p) fits_exactly refl (λ _ _. refl) places)
+
+    -- an answer that is the test's decides it
+    pub finished_decides : (b : Bool) → b ≡ finished l p → Decides b (Finished l p)
+    finished_decides b says = Decides-at _ _ says finished_exactly

@@ -3,7 +3,6 @@ pub mod Finding
 pub mod Sliding
 pub mod Fits
 pub mod Roll
-pub mod Walls
 pub mod Making
 pub mod Starting
 pub mod Standing

@@ -1,30 +1,105 @@
--- The atoms of a board by number, cell by cell. Assumes nothing.
-use Rattle.std.proofs.Common.{◌≡◌, ℕ, suc, ◌+◌, ◌-◌, ◌<◌, ◌≤◌, Bool, true, false, cond, List, [], ◌∷◌, ◌++◌, map, length, take, set, replicate, count_by, sym, refl, ap, ◌∙◌, append_assoc, arith, length-set}
-use Rattle.std.specs.List.{range_with_len}
-use Rattle.std.proofs.lemmas.List.FromFn.{fill_by_all, take-map-range_with_len}
-use Rattle.std.proofs.lemmas.List.{map_push, length_push, set_at, take_more_set}
-use Rattle.std.proofs.lemmas.List.Sums.{length-filter, sum_by-cons, sum_by-take-le}
+-- The atoms of a board by number: their labels and their cells. Assumes nothing.
+use Rattle.std.proofs.Common.{◌≡◌, ℕ, suc, ◌+◌, ◌-◌, ◌<◌, ◌≤◌, Bool, true, false, cond, List, [], ◌∷◌, ◌++◌, map, length, get_or, take, set, replicate, filter, sym, refl, ap, ◌∙◌, subst, zero-add, append_assoc, arith, length-take-le}
+use Rattle.std.specs.List.{range_with_len, filter_map, enumerate_from}
+use Rattle.std.proofs.Math.Seq.{take-append_seam}
+use Rattle.std.proofs.lemmas.List.FromFn.{fill_by_all, length-enumerate_from, get_or-enumerate_from}
+use Rattle.std.proofs.lemmas.List.{length-map, length_push, set_at, take_more, take_all, get_or-map, get_or_default}
+use Rattle.std.proofs.lemmas.List.Sums.{length-filter}
+use Rattle.std.proofs.lemmas.Simd.{map-map}
 use Rattle.pictures.specs.declared.cell.Cell.{Cell}
 use Rattle.pictures.specs.declared.cell.Cell.TheVariants.{Wall, Free, Atom}
 use Rattle.pictures.specs.Pictures.{Shape, cell_at}
 use Rattle.molecules.specs.Atoms.{is_atom, atom_count}
-use Rattle.molecules.proofs.Passing.{passing, passing_one, passing_none}
-use Rattle.atoms.specs.Board.{atom_cells, label_of, labels_of, filled, start_cells}
+use Rattle.atoms.specs.Board.{atom_cells, label_in, label_of, labels_of, filled}
 
--- as many pass after a step as pass of what it gives
-count_map : {X Y : Type 0} (test : Y → Bool) (f : X → Y) (xs : List X) → count_by (λ x. test (f x)) xs ≡ count_by test (map f xs)
-count_map test f [] = refl
-count_map test f (x ∷ xs) =
-    sum_by-cons (λ y. cond (test (f y)) 1 0) x xs ∙ ap (λ n. cond (test (f x)) 1 0 + n) (count_map test f xs)
-    ∙ sym (sum_by-cons (λ y. cond (test y) 1 0) (f x) (map f xs))
+-- what passes of what a function gives, is what it gives of what passes before it
+filter-map : {X Y : Type 0} (test : Y → Bool) (f : X → Y) (xs : List X) → filter test (map f xs) ≡ map f (filter (λ x. test (f x)) xs)
+filter-map test f [] = refl
+filter-map {X = X} {Y = Y} test f (x ∷ xs) = by (test (f x)) _ _ (filter-map test f xs)
+  where
+    by : (b : Bool) (ys : List Y) (zs : List X) → ys ≡ map f zs → cond b (f x ∷ ys) ys ≡ map f (cond b (x ∷ zs) zs)
+    by true ys zs rest = ap (λ l. f x ∷ l) rest
+    by false ys zs rest = rest
 
--- a cell that shows no atom
-pub no_atom : (x : Cell) → ((label : ℕ) → x ≡ Atom label → ⊥) → is_atom x ≡ false
-no_atom Wall other = refl
-no_atom Free other = refl
-no_atom (Atom label) other = absurd (other label refl)
+-- the labels on some cells are those of the atoms among them
+labels_among : (xs : List Cell) → filter_map label_in xs ≡ map label_of (filter is_atom xs)
+labels_among [] = refl
+labels_among (Wall ∷ xs) = labels_among xs
+labels_among (Free ∷ xs) = labels_among xs
+labels_among (Atom label ∷ xs) = ap (λ l. label ∷ l) (labels_among xs)
 
--- one cell more goes behind the others in a list filled to sixteen
+-- the turn of a loop that has number n gives the next of a list
+abbrev pub Next : List ℕ → ℕ → ℕ → ℕ → Type 0
+Next xs n number x = (n < length xs) × (number ≡ n) × (x ≡ get_or xs n x)
+
+-- the item of a turn that is counted
+counted_turn : {X : Type 0} (all : List X) (n : ℕ) (p : ℕ × X) → (n < length (enumerate_from 0 all)) × (p ≡ get_or (enumerate_from 0 all) n p) → (n < length all) × (p.0 ≡ n) × (p.1 ≡ get_or all n p.1)
+counted_turn {X = X} all n p turn =
+    let inside : n < length all = omega (arith, turn.0, length-enumerate_from 0 all) in
+    let at = turn.1 ∙ get_or-enumerate_from 0 all n p inside in
+    (inside, ap (λ (q : ℕ × X). q.0) at ∙ zero-add n, ap (λ (q : ℕ × X). q.1) at)
+
+-- whether the cell with a number is an atom's
+abbrev pub on_atom : ℕ × Cell → Bool
+on_atom p = is_atom p.1
+
+module _ (b : Shape) where
+  -- the numbers of the cells
+  abbrev numbers : List ℕ
+  numbers = range_with_len 0 (length b.cells)
+
+  -- the atoms among the cells
+  atoms_among : filter is_atom b.cells ≡ map (cell_at b) (atom_cells b)
+  atoms_among =
+      ap (filter is_atom) (fill_by_all (cell_at b) b.cells _ Wall refl (λ k h. refl)) ∙ filter-map is_atom (cell_at b) numbers
+
+  -- as many as the atoms are their cells
+  pub length_atoms : length (atom_cells b) ≡ atom_count b
+  length_atoms =
+      sym (length-map (atom_cells b) (cell_at b)) ∙ sym (ap length atoms_among) ∙ length-filter is_atom b.cells
+
+  -- and their labels
+  pub length_labels : length (labels_of b) ≡ atom_count b
+  length_labels = length-map (atom_cells b) (λ i. label_of (cell_at b i)) ∙ length_atoms
+
+  -- the labels, cell by cell
+  labels_called : filter_map label_in b.cells ≡ labels_of b
+  labels_called = labels_among b.cells ∙ ap (map label_of) atoms_among ∙ map-map label_of (cell_at b) (atom_cells b)
+
+  abbrev Labels : List (ℕ × ℕ)
+  Labels = enumerate_from 0 (filter_map label_in b.cells)
+
+  pub label_turn : (n : ℕ) (p : ℕ × ℕ) → (n < length Labels) × (p ≡ get_or Labels n p) → Next (labels_of b) n p.0 p.1
+  label_turn n p turn = subst (λ xs. Next xs n p.0 p.1) labels_called (counted_turn _ n p turn)
+
+  pub label_end : (n : ℕ) → n ≡ length Labels → length (labels_of b) ≤ n
+  label_end n all = omega (arith, length-enumerate_from 0 (filter_map label_in b.cells), ap length labels_called)
+
+  -- the cells with atoms, each with its number
+  abbrev numbered : ℕ → ℕ × Cell
+  numbered k = (k, cell_at b k)
+
+  cells_called : filter on_atom (enumerate_from 0 b.cells) ≡ map numbered (atom_cells b)
+  cells_called =
+      ap (filter on_atom)
+      (fill_by_all numbered (enumerate_from 0 b.cells) _ (0, Wall) (length-enumerate_from 0 b.cells) (λ k h. get_or-enumerate_from 0 b.cells k (0, Wall) h ∙ ap (λ j. (j, cell_at b k)) (zero-add k)))
+      ∙ filter-map on_atom numbered numbers
+
+  abbrev Cells : List (ℕ × (ℕ × Cell))
+  Cells = enumerate_from 0 (filter on_atom (enumerate_from 0 b.cells))
+
+  pub cell_turn : (n : ℕ) (p : ℕ × (ℕ × Cell)) → (n < length Cells) × (p ≡ get_or Cells n p) → Next (atom_cells b) n p.0 p.1.0
+  cell_turn n p turn =
+      let at = counted_turn _ n p turn in
+      let inside : n < length (atom_cells b) = omega (arith, at.0, ap length cells_called, length-map (atom_cells b) numbered) in
+      let here = at.2 ∙ ap (λ xs. get_or xs n p.1) cells_called ∙ get_or-map numbered (atom_cells b) n p.1.0 p.1 inside in
+      (inside, at.1, ap (λ (q : ℕ × Cell). q.0) here)
+
+  pub cell_end : (n : ℕ) → n ≡ length Cells → length (atom_cells b) ≤ n
+  cell_end n all =
+      omega (arith, length-enumerate_from 0 (filter on_atom (enumerate_from 0 b.cells)), ap length cells_called, length-map (atom_cells b) numbered)
+
+-- one more goes behind the others in a list filled to sixteen
 set_filled : (xs : List ℕ) (x : ℕ) → length xs < 16 → set (filled xs) (length xs) x ≡ filled (xs ++ (x ∷ []))
 set_filled xs x room =
     let here : 16 - length xs ≡ suc (16 - (length xs + 1)) = omega arith in
@@ -33,82 +108,26 @@ set_filled xs x room =
     ∙ sym (append_assoc xs (x ∷ []) _)
     ∙ ap (λ n. (xs ++ (x ∷ [])) ++ replicate (16 - n) 0) (sym (length_push xs x))
 
-module _ (b : Shape) where
-  -- an atom is on the cell
-  abbrev atom_on : ℕ → Bool
-  atom_on k = is_atom (cell_at b k)
+-- the first n of a list are filled in, and the next one goes behind them
+fill_more : (xs : List ℕ) (n x : ℕ) → length xs ≤ 16 → n < length xs → x ≡ get_or xs n 0 → set (filled (take n xs)) n x ≡ filled (take (n + 1) xs)
+fill_more xs n x few h e =
+    let long : length (take n xs) ≡ n = length-take-le n xs (omega arith) in
+    ap (λ k. set (filled (take n xs)) k x) (sym long)
+    ∙ set_filled (take n xs) x (omega arith)
+    ∙ ap (λ y. filled (take n xs ++ (y ∷ []))) e
+    ∙ ap filled (sym (take_more xs n 0 h))
 
-  -- the label of the atom on the cell
-  abbrev label_on : ℕ → ℕ
-  label_on k = label_of (cell_at b k)
+-- the same in a turn
+pub fill_turn : (xs : List ℕ) (n number x : ℕ) (old : List ℕ) → length xs ≤ 16 → old ≡ filled (take n xs) → Next xs n number x → set old number x ≡ filled (take (n + 1) xs)
+fill_turn xs n number x old few before next =
+    ap (λ l. set l number x) before ∙ ap (λ k. set (filled (take n xs)) k x) next.1
+    ∙ fill_more xs n x few next.0 (next.2 ∙ get_or_default xs n x 0 next.0)
 
-  -- the first n cells
-  abbrev first : ℕ → List Cell
-  first n = map (cell_at b) (range_with_len 0 n)
+-- all are filled in
+pub fill_end : (xs : List ℕ) (n : ℕ) (old : List ℕ) → old ≡ filled (take n xs) → length xs ≤ n → old ≡ filled xs
+fill_end xs n old before all = before ∙ ap filled (take_all n xs all)
 
-  -- those of the first n cells that hold an atom
-  abbrev atoms_before : ℕ → List ℕ
-  atoms_before n = passing atom_on n
-
-  -- they are as many as the atoms of the first n cells
-  length_before : (n : ℕ) → length (atoms_before n) ≡ count_by is_atom (first n)
-  length_before n = length-filter atom_on (range_with_len 0 n) ∙ count_map is_atom (cell_at b) (range_with_len 0 n)
-
-  -- all cells of the board
-  first_all : first (length b.cells) ≡ b.cells
-  first_all = sym (fill_by_all (cell_at b) b.cells _ Wall refl (λ k h. refl))
-
-  -- there are as many atoms as cells that hold one
-  pub length_atoms : length (atom_cells b) ≡ atom_count b
-  length_atoms = length_before (length b.cells) ∙ ap (count_by is_atom) first_all
-
-  -- no front of the board holds more
-  before_few : (n : ℕ) → n ≤ length b.cells → length (atoms_before n) ≤ atom_count b
-  before_few n h =
-      let front = take-map-range_with_len (cell_at b) 0 (length b.cells) n h in
-      let all = ap (count_by is_atom) first_all in
-      let part = ap (count_by is_atom) front in
-      omega (arith, length_before n, sum_by-take-le (λ x. cond (is_atom x) 1 0) (first (length b.cells)) n)
-
-  -- the atoms of the first n cells are called: `count` labels, and the cells of a position
-  abbrev pub Called : List ℕ → List ℕ → ℕ → ℕ → Type 0
-  Called labels cells count n =
-      (cells ≡ filled (atoms_before n)) × (count ≡ length (atoms_before n)) × (take count labels ≡ map label_on (atoms_before n)) × (length labels ≡ 16)
-
-  module _ (labels cells : List ℕ) (count n : ℕ) (called : Called labels cells count n) where
-    -- there is room for one more
-    pub call_room : atom_count b ≤ 16 → n < length b.cells → atom_on n ≡ true → count < 16
-    call_room few h e =
-        let more = ap length (passing_one atom_on n e) in
-        omega (arith, before_few (n + 1) (omega arith), length_push (atoms_before n) n)
-
-    -- one more is called
-    pub call_one : (label : ℕ) → count < 16 → atom_on n ≡ true → label ≡ label_on n → Called (set labels count label) (set cells count n) (count + 1) (n + 1)
-    call_one label room e known =
-        let more = passing_one atom_on n e in (
-          ap (λ l. set l count n) called.0 ∙ ap (λ k. set (filled (atoms_before n)) k n) called.1
-              ∙ set_filled (atoms_before n) n (omega arith) ∙ ap filled (sym more),
-          ap (λ k. k + 1) called.1 ∙ sym (length_push (atoms_before n) n) ∙ ap length (sym more),
-          take_more_set labels count label (omega arith)
-              ∙ ap (λ l. l ++ (label ∷ [])) called.2 ∙ ap (λ k. map label_on (atoms_before n) ++ (k ∷ [])) known
-              ∙ sym (map_push label_on (atoms_before n) n) ∙ ap (map label_on) (sym more),
-          length-set labels count label ∙ called.3,
-        )
-
-    -- a cell without an atom is passed over
-    pub call_none : atom_on n ≡ false → Called labels cells count (n + 1)
-    call_none e =
-        let same = sym (passing_none atom_on n e) in (
-          called.0 ∙ ap filled same,
-          called.1 ∙ ap length same,
-          called.2 ∙ ap (map label_on) same,
-          called.3,
-        )
-
-    -- all atoms are called
-    pub call_all : n ≡ length b.cells → (cells ≡ start_cells b) × (take (atom_count b) labels ≡ labels_of b)
-    call_all all =
-        let counted : atom_count b ≡ count = sym (called.1 ∙ ap (λ k. length (atoms_before k)) all ∙ length_atoms) in (
-          called.0 ∙ ap (λ k. filled (atoms_before k)) all,
-          ap (λ k. take k labels) counted ∙ called.2 ∙ ap (λ k. map label_on (atoms_before k)) all,
-        )
+-- the labels are at the front of the list that they are filled into
+pub labels_filled : (b : Shape) (atoms : ℕ) (labels : List ℕ) → atoms ≡ atom_count b → labels ≡ filled (labels_of b) → take atoms labels ≡ labels_of b
+labels_filled b atoms labels counted all =
+    ap (take atoms) all ∙ ap (λ n. take n (filled (labels_of b))) (counted ∙ sym (length_labels b)) ∙ take-append_seam (labels_of b) _

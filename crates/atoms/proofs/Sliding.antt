@@ -1,6 +1,6 @@
 -- A move is open exactly where an atom slides. Assumes nothing.
-use Rattle.std.proofs.Common.{◌≡◌, ℕ, ◌/◌, ◌%◌, ◌<◌, ◌≤◌, Bool, true, false, cond, ltb, length, get_or, set, Some, None, Option, sym, refl, ap, ◌∙◌, subst, ⊎_elim, arith}
-use Rattle.std.proofs.lemmas.List.{length-set, get_or-set_same, get_or-set_other, ext_get_or}
+use Rattle.std.proofs.Common.{◌≡◌, ℕ, ◌/◌, ◌%◌, ◌<◌, ◌≤◌, Bool, true, false, cond, ltb, List, length, get_or, take, set, length-take, Some, None, Option, sym, refl, ap, ◌∙◌, subst, ⊎_elim, arith}
+use Rattle.std.proofs.lemmas.List.{length-set, get_or-take, get_or-set_same, get_or-set_other, ext_get_or}
 use Rattle.std.proofs.lemmas.Bool.{cases_eq, cond-true, lt-ltb, ltb-true}
 use Rattle.grid.specs.declared.Direction.{Direction}
 use Rattle.grid.specs.declared.Grid.{Grid}
@@ -38,10 +38,17 @@ module _ (l : Atoms) (p : Position) where
   moved_slides : (m : ℕ) (d : Direction) → m / 4 < count l → direction_of (m % 4) ≡ Some d → moved l p m ≡ put_to l p (m / 4) (rest_of l p (m / 4) d)
   moved_slides m d there named = cond-true _ _ _ (lt-ltb _ _ there) ∙ ap (slides l p (m / 4)) named
 
+  -- an atom of the level stands on its cell
+  pub stands_on : (cells : List ℕ) (a from : ℕ) → cells ≡ take (count l) p.cells → a < length cells → from ≡ get_or cells a 0 → (a < count l) × (from ≡ get_or p.cells a 0)
+  stands_on cells a from all inside stands =
+      let there : a < count l = omega (arith, ap length all, length-take (count l) p.cells) in
+      (there, stands ∙ ap (λ cs. get_or cs a 0) all ∙ get_or-take (count l) p.cells a 0 there)
+
   -- the same by what the steps of the code answer
-  pub moved_by : (m : ℕ) (d : Direction) (g : Grid) (s : CellSet) (o : Option ℕ) → m / 4 < count l → Some d ≡ direction_of (m % 4) → g ≡ grid_of l → ((k : ℕ) → has s k ≡ blocked l p k) → o ≡ slid g.width g.height (has s) d (get_or p.cells (m / 4) 0) → moved l p m ≡ put_to l p (m / 4) o
-  moved_by m d g s o there named size same rests =
-      moved_slides m d there (sym named) ∙ ap (put_to l p (m / 4)) (sym (rests ∙ slid_on g s (m / 4) d size same))
+  pub moved_by : (m : ℕ) (d : Direction) (g : Grid) (s : CellSet) (o : Option ℕ) (from : ℕ) → (m / 4 < count l) × (from ≡ get_or p.cells (m / 4) 0) → Some d ≡ direction_of (m % 4) → g ≡ grid_of l → ((k : ℕ) → has s k ≡ blocked l p k) → o ≡ slid g.width g.height (has s) d from → moved l p m ≡ put_to l p (m / 4) o
+  moved_by m d g s o from stands named size same rests =
+      moved_slides m d stands.0 (sym named)
+      ∙ ap (put_to l p (m / 4)) (sym (rests ∙ ap (slid g.width g.height (has s) d) stands.1 ∙ slid_on g s (m / 4) d size same))
 
   -- a move to q: it names an atom and a direction, and the atom slides
   pub record Open (m : ℕ) (q : Position) : Type 0 where

@@ -1,17 +1,17 @@
 -- On every position that is reached each atom stands on a cell of its own. Assumes nothing.
-use Rattle.std.proofs.Common.{◌≡◌, ℕ, ◌*◌, ◌/◌, ◌<◌, ◌≤◌, true, false, List, [], ◌∷◌, length, get_or, take, set, Some, sym, refl, ap, ◌∙◌, subst, ⊎_elim, mul_comm, arith}
-use Rattle.std.proofs.lemmas.Nat.{div_below, mod_below, div-add-mod'}
-use Rattle.std.proofs.lemmas.List.{length-set, length-take, length-take-le, get_or-take, get_or-set_same, get_or-set_other}
+use Rattle.std.proofs.Common.{◌≡◌, ℕ, ◌*◌, ◌/◌, ◌<◌, ◌≤◌, true, false, List, [], ◌∷◌, length, get_or, take, set, Some, sym, ap, ◌∙◌, subst, ⊎_elim, arith}
+use Rattle.std.proofs.lemmas.List.{length-set, length-take-le, get_or-take, get_or-set_same, get_or-set_other}
 use Rattle.std.proofs.lemmas.Bool.{both_ways, cases_eq, or_left}
-use Rattle.grid.specs.Grid.{row, column, at}
+use Rattle.grid.specs.declared.Place.{Place}
+use Rattle.grid.specs.Grid.{cell_at}
 use Rattle.puzzle.specs.Game.{Plays, here, then, Reached}
 use Rattle.slides.proofs.Resting.{slid_inside, slid_free}
 use Rattle.atoms.specs.declared.position.Position.{Position}
 use Rattle.atoms.specs.Level.{Atoms, Valid, count, blocked, moved, game}
 use Rattle.atoms.specs.Moves.{atom_at}
 use Rattle.atoms.proofs.Blocking.{among_at}
-use Rattle.atoms.proofs.Finding.{found, atom_at_on, atom_at_from, found_first, found_below}
-use Rattle.atoms.proofs.Sliding.{grid_of, moved_open}
+use Rattle.atoms.proofs.Finding.{found_first}
+use Rattle.atoms.proofs.Sliding.{moved_open}
 use Rattle.atoms.proofs.Starting.{start_long, start_inside, start_apart}
 
 -- sixteen places and no more atoms, each atom on the board, and no two on one cell
@@ -97,26 +97,13 @@ pub reached_stands : (l : Atoms) → Valid l → (p : Position) → Reached (gam
 reached_stands l v p way = plays_stands l _ p way.0 way.1 (start_stands l v)
 
 -- an atom is found where it stands
-pub atom_there : (l : Atoms) (p : Position) → Standing l p → (a : ℕ) → a < count l → 1 ≤ l.board.width → atom_at l p (row l.board.width (get_or p.cells a 0)) (column l.board.width (get_or p.cells a 0)) ≡ Some a
-atom_there l p stands a there wide =
-    let w = l.board.width in
-    let h = l.board.height in
-    let cell = get_or p.cells a 0 in
-    let on = stands.inside a there in
+pub atom_there : (l : Atoms) (p : Position) → Standing l p → (a : ℕ) → a < count l → (place : Place) → cell_at l.board.width l.board.height place ≡ Some (get_or p.cells a 0) → atom_at l p place ≡ Some a
+atom_there l p stands a there place on =
     let firsts = take (count l) p.cells in
     let long : length firsts ≡ count l = length-take-le (count l) p.cells (omega (arith, stands.few, stands.long)) in
     let same : (b : ℕ) → b < count l → get_or firsts b 0 ≡ get_or p.cells b 0 = λ b. get_or-take (count l) p.cells b 0 in
-    atom_at_on l p (grid_of l) _ _ refl (div_below cell w h wide (omega (arith, mul_comm w h))) (mod_below cell w wide)
-    ∙ ap (found l p) (div-add-mod' cell w)
-    ∙ found_first l 0 firsts a a cell (omega arith) (omega arith) (sym (same a there))
+    found_first l p place _ a on (omega arith) (same a there)
     (λ b less e.
     let below : b < count l = omega arith in
-    let one = stands.apart a b there below (e ∙ same b below) in
+    let one = stands.apart a b there below (sym (sym (same b below) ∙ e)) in
     omega arith)
-
--- what is found is an atom of the level
-pub atom_at_below : (l : Atoms) (p : Position) (r c a : ℕ) → atom_at l p r c ≡ Some a → a < count l
-atom_at_below l p r c a e =
-    let firsts = take (count l) p.cells in
-    let below = found_below l 0 firsts (at l.board.width r c) a (atom_at_from l p r c a e) in
-    omega (arith, below, length-take (count l) p.cells)

@@ -1,7 +1,8 @@
 -- Moves and the finish in the words of the game, without the steps of any program. Assumes nothing.
-use Rattle.std.specs.Prelude.{◌≡◌, ℕ, ◌+◌, ◌*◌, ◌<◌, cond, ◌&&◌, List, [], ◌∷◌, length, take, Some, None, Option, ◌==◌, ◌≢◌, nat_lt, slice_index}
+use Rattle.std.specs.Prelude.{◌≡◌, ℕ, ◌+◌, ◌*◌, ◌<◌, length, take, position, Some, None, Option, ◌==◌, ◌≢◌, slice_index}
 use Rattle.grid.specs.declared.Direction.{Direction}
-use Rattle.grid.specs.Grid.{number_of, at}
+use Rattle.grid.specs.declared.Place.{Place}
+use Rattle.grid.specs.Grid.{number_of, cell_at}
 use Rattle.slides.specs.Slides.{Slides}
 use Rattle.molecules.specs.Places.{GoalPlace, Wanted}
 use Rattle.atoms.specs.declared.position.Position.{Position}
@@ -30,13 +31,10 @@ module _ (l : Atoms) where
     pub goal : GoalPlace l.board l.molecule place
     pub fits : (a : ℕ) → a < count l → Wanted l.board l.molecule place (slice_index p.cells a) (slice_index (labels_of l.board) a)
 
-  -- the first of these cells that is this one, where the first of them has number a
-  abbrev pub found_from : ℕ → List ℕ → ℕ → Option ℕ
-  found_from a [] cell = None
-  found_from a (c ∷ cs) cell = cond (cell == c) (Some a) (found_from (a + 1) cs cell)
-
-  -- the atom that stands on the cell of a row and a column of the board
-  abbrev pub atom_at : Position → ℕ → ℕ → Option ℕ
-  atom_at p r c =
-      cond (nat_lt r l.board.height && nat_lt c l.board.width)
-      (found_from 0 (take (count l) p.cells) (at l.board.width r c)) None
+  -- the atom that stands at a place of the board
+  abbrev pub atom_at : Position → Place → Option ℕ
+  atom_at p place =
+      elim (cell_at l.board.width l.board.height place) [
+        | Some cell ↦ position (λ at. at == cell) (take (count l) p.cells)
+        | None ↦ None
+      ]

@@ -22,7 +22,7 @@ pub struct AtomLevel {
     board: Picture,
     molecule: Molecule,
     atoms: usize,
-    labels: [u8; 16],
+    labels: [u8; AtomLevel::MOST_ATOMS],
     start: Position,
     walls: CellSet,
     places: GoalPlaces,

@@ -1,55 +1,18 @@
 -- A level's text written part by part. Assumes nothing.
-use Rattle.std.proofs.Common.{◌≡◌, ℕ, suc, ◌+◌, ◌-◌, ◌*◌, ◌<◌, ◌≤◌, Bool, true, false, cond, leb, List, [], ◌∷◌, ◌++◌, map, length, take, drop, Some, None, Ok, Err, codes, decimal, Option, Result, sym, refl, ap, ◌∙◌, append_assoc, mul-add, arith}
-use Rattle.std.proofs.lemmas.Nat.{mul-le}
-use Rattle.std.proofs.lemmas.List.{at_drop_more, at_drop_all, drop-drop, get_or-drop, get_or-take, length-drop, length-take-le}
-use Rattle.pen.specs.Ink.{count}
-use Rattle.refusals.specs.declared.Fault.TheVariants.{NoRoom}
-use Rattle.refusals.specs.declared.Refusal.{Refusal}
-use Rattle.refusals.specs.Refusals.{refusal}
+use Rattle.std.proofs.Common.{◌≡◌, ℕ, zero, suc, ◌+◌, ◌*◌, ◌<◌, min, List, [], ◌∷◌, ◌++◌, map, length, take, drop, codes, decimal, sym, refl, ap, ◌∙◌, append_assoc, mul-add, add-one, arith}
+use Rattle.std.proofs.lemmas.List.{take_at, drop_at, length-append}
+use Rattle.pen.specs.declared.Pen.{Pen}
+use Rattle.pen.specs.Ink.{Writes}
+use Rattle.pen.proofs.Ink.{Leads, leads_start, leads_more, leads_as, leads_end}
 use Rattle.text.specs.Lines.{join_lines}
 use Rattle.forms.specs.Forms.{size_line, closing}
-use Rattle.grid.specs.declared.Grid.{Grid}
 use Rattle.pictures.specs.declared.cell.Cell.{Cell}
-use Rattle.pictures.specs.declared.cell.Cell.TheVariants.{Wall}
 use Rattle.pictures.specs.declared.picture.Picture.{Picture}
 use Rattle.pictures.specs.Cells.{symbol_of}
-use Rattle.pictures.specs.Pictures.{Shape, shape, cell_at}
+use Rattle.pictures.specs.Pictures.{Shape, shape}
 use Rattle.pictures.proofs.Shapes.{length_cells}
-use Rattle.atoms.specs.Level.{Atoms, atoms_of}
-use Rattle.atoms_text.specs.Writing.{drawn_line, drawn_lines, picture_lines, level_text, writes}
-
--- the cells of a row
-abbrev pub row_cells : Shape → ℕ → List Cell
-row_cells s r = take s.width (drop (s.width * r) s.cells)
-
--- the characters from column i on
-abbrev pub symbols_from : Shape → ℕ → ℕ → List ℕ
-symbols_from s r i = map symbol_of (drop i (row_cells s r))
-
--- a row of a picture, whose board is g
-module _ (p : Picture) (g : Grid) (same : g ≡ p.grid) (r : ℕ) (inside : r < (shape p).height) where
-  wide : g.width ≡ (shape p).width
-  wide = ap (λ (b : Grid). b.width) same
-
-  -- it is as wide as the picture
-  long : length (row_cells (shape p) r) ≡ (shape p).width
-  long =
-      let w = (shape p).width in
-      length-take-le w (drop (w * r) (shape p).cells)
-      (omega (arith, length_cells p, length-drop (w * r) (shape p).cells, mul-le w (r + 1) w (shape p).height (omega arith) (omega arith), mul-add w r 1))
-
-  -- one column more, whose cell is x and its character k
-  pub symbols_more : (i k : ℕ) (x : Cell) → i < g.width → x ≡ cell_at (shape p) (g.width * r + i) → k ≡ symbol_of x → symbols_from (shape p) r i ≡ (k ∷ []) ++ symbols_from (shape p) r (i + 1)
-  symbols_more i k x on there drawn =
-      let s = shape p in
-      let rest = drop (s.width * r) s.cells in
-      let here = ap (λ w. cell_at s (w * r + i)) wide ∙ sym (get_or-take s.width rest i Wall (omega (arith, wide)) ∙ get_or-drop (s.width * r) s.cells i Wall) in
-      at_drop_more (map symbol_of) (row_cells s r) i Wall (omega (arith, long, wide))
-      ∙ ap (λ b. b ∷ symbols_from s r (i + 1)) (sym (drawn ∙ ap symbol_of (there ∙ here)))
-
-  -- after the last column there is none
-  pub symbols_all : (i : ℕ) → g.width ≤ i → symbols_from (shape p) r i ≡ []
-  symbols_all i past = at_drop_all (map symbol_of) (row_cells (shape p) r) i (omega (arith, long, wide))
+use Rattle.atoms.specs.Level.{atoms_of}
+use Rattle.atoms_text.specs.Writing.{drawn_line, drawn_lines, picture_lines, level_text}
 
 -- the brackets of a row's line
 pub line_text : (kw : List ℕ) (xs : List Cell) → drawn_line kw xs ++ (10 ∷ []) ≡ (40 ∷ []) ++ (kw ++ ((32 ∷ []) ++ (map symbol_of xs ++ codes ")\n")))
@@ -57,34 +20,48 @@ line_text kw xs =
     ap (λ t. 40 ∷ t) (append_assoc kw (32 ∷ (map symbol_of xs ++ closing)) (10 ∷ []))
     ∙ ap (λ t. 40 ∷ (kw ++ (32 ∷ t))) (append_assoc (map symbol_of xs) closing (10 ∷ []))
 
--- the lines of a picture from row r on
-abbrev pub lines_from : List ℕ → Shape → ℕ → List ℕ
-lines_from kw s r = join_lines (drawn_lines kw (s.height - r) s.width (drop (s.width * r) s.cells))
+-- Of a picture's lines, which begin at a, those of whole rows of these cells are still to be written at b.
+pub record Owed (kw : List ℕ) (w : ℕ) (xs : List Cell) (whole : List ℕ) (a b : Pen) : Type 0 where
+  pub rows : ℕ
+  pub filled : length xs ≡ w * rows
+  pub leads : Leads whole (join_lines (drawn_lines kw rows w xs)) a b
 
--- all of them
-pub lines_start : (kw : List ℕ) (s : Shape) → join_lines (picture_lines kw s) ≡ lines_from kw s 0
-lines_start kw s =
-    let none : 0 ≡ s.width * 0 = omega arith in
-    let all : s.height ≡ s.height - 0 = omega arith in
-    ap (λ h. join_lines (drawn_lines kw h s.width s.cells)) all
-    ∙ ap (λ k. join_lines (drawn_lines kw (s.height - 0) s.width (drop k s.cells))) none
+pub owed_start : (kw : List ℕ) (p : Picture) (w : ℕ) (xs : List Cell) (a : Pen) → w ≡ (shape p).width → xs ≡ (shape p).cells → Owed kw w xs (join_lines (picture_lines kw (shape p))) a a
+owed_start kw p w xs a wide drawn = record {
+  rows = (shape p).height;
+  filled = ap length drawn ∙ length_cells p ∙ ap (λ n. n * (shape p).height) (sym wide);
+  leads = leads_start (ap (λ n. join_lines (drawn_lines kw (shape p).height n (shape p).cells)) (sym wide) ∙ ap (λ ys. join_lines (drawn_lines kw (shape p).height w ys)) (sym drawn));
+}
 
--- one row more
-pub lines_more : (kw : List ℕ) (s : Shape) (r : ℕ) → r < s.height → lines_from kw s r ≡ (drawn_line kw (row_cells s r) ++ (10 ∷ [])) ++ lines_from kw s (r + 1)
-lines_more kw s r inside =
-    let w = s.width in
-    let k = s.height - (r + 1) in
-    let on : s.height - r ≡ suc k = omega arith in
-    let next : w * r + w ≡ w * (r + 1) = omega (arith, mul-add w r 1) in
-    ap (λ h. join_lines (drawn_lines kw h w (drop (w * r) s.cells))) on
-    ∙ ap (λ xs. join_lines (drawn_line kw (row_cells s r) ∷ drawn_lines kw k w xs)) (drop-drop w (w * r) s.cells ∙ ap (λ n. drop n s.cells) next)
-    ∙ sym (append_assoc (drawn_line kw (row_cells s r)) (10 ∷ []) (lines_from kw s (r + 1)))
+-- one row, x, is written
+pub owed_more : {kw : List ℕ} {w : ℕ} {xs : List Cell} {whole : List ℕ} {a b c : Pen} (x ys : List Cell) → Owed kw w xs whole a b
+    → xs ≡ x ++ ys → length x ≡ min w (length xs) → 0 < length xs → Writes (drawn_line kw x ++ (10 ∷ [])) b c → Owed kw w ys whole a c
+owed_more {kw = kw} {w = w} {xs = xs} {whole = whole} {a = a} {b = b} {c = c} x ys owed cut long some wrote = by owed.rows owed.filled owed.leads
+  where
+    by : (rows : ℕ) → length xs ≡ w * rows → Leads whole (join_lines (drawn_lines kw rows w xs)) a b → Owed kw w ys whole a c
+    by zero filled leads = absurd (omega (arith, filled))
+    by (suc k) filled leads =
+        let more : w * suc k ≡ w + w * k = ap (λ j. w * j) (sym (add-one k)) ∙ mul-add w k 1 ∙ omega arith in
+        let row : length x ≡ w = omega arith in
+        let here : take w xs ≡ x = ap (take w) cut ∙ take_at x ys w row in
+        let rest : drop w xs ≡ ys = ap (drop w) cut ∙ drop_at x ys w row in
+        let parts = ap length cut ∙ length-append x ys in
+        record {
+          rows = k;
+          filled = omega arith;
+          leads =
+              leads_more (leads_as (ap (λ y. join_lines (drawn_line kw y ∷ drawn_lines kw k w (drop w xs))) here
+              ∙ ap (λ zs. join_lines (drawn_line kw x ∷ drawn_lines kw k w zs)) rest
+              ∙ sym (append_assoc (drawn_line kw x) (10 ∷ []) (join_lines (drawn_lines kw k w ys)))) leads) wrote;
+        }
 
--- after the last row there is none
-pub lines_all : (kw : List ℕ) (s : Shape) (r : ℕ) → s.height ≤ r → lines_from kw s r ≡ []
-lines_all kw s r past =
-    let none : s.height - r ≡ 0 = omega arith in
-    ap (λ h. join_lines (drawn_lines kw h s.width (drop (s.width * r) s.cells))) none
+-- no row is left
+pub owed_end : {kw : List ℕ} {w : ℕ} {xs : List Cell} {whole : List ℕ} {a b : Pen} → 0 < w → Owed kw w xs whole a b → length xs ≡ 0 → Writes whole a b
+owed_end {kw = kw} {w = w} {xs = xs} {whole = whole} {a = a} {b = b} wide owed none = by owed.rows owed.filled owed.leads
+  where
+    by : (rows : ℕ) → length xs ≡ w * rows → Leads whole (join_lines (drawn_lines kw rows w xs)) a b → Writes whole a b
+    by zero filled leads = leads_end leads
+    by (suc k) filled leads = absurd (let more : w * suc k ≡ w + w * k = ap (λ j. w * j) (sym (add-one k)) ∙ mul-add w k 1 ∙ omega arith in omega arith)
 
 -- lines after others
 join_append : (ls ms : List (List ℕ)) → join_lines (ls ++ ms) ≡ join_lines ls ++ join_lines ms
@@ -103,15 +80,3 @@ level_text_lem b m w h wide high =
     ∙ ap (λ t. codes "(atomix " ++ t) (append_assoc (decimal w) (32 ∷ decimal h) (10 ∷ join_lines lines))
     ∙ ap (λ t. codes "(atomix " ++ (decimal w ++ (32 ∷ (decimal h ++ (10 ∷ t)))))
     (join_append board (molecule ++ (closing ∷ [])) ∙ ap (λ t. join_lines board ++ t) (join_append molecule (closing ∷ [])))
-
--- what was counted, as an answer
-abbrev pub answered : Option ℕ → Result ℕ Refusal
-answered (Some n) = Ok n
-answered None = Err (refusal NoRoom 0)
-
-pub answered_count : (l : Atoms) (out : List ℕ) → answered (count (level_text l) out) ≡ writes l out
-answered_count l out = by (leb (length (level_text l)) (length out))
-  where
-    by : (b : Bool) → answered (cond b (Some (length (level_text l))) None) ≡ cond b (Ok (length (level_text l))) (Err (refusal NoRoom 0))
-    by true = refl
-    by false = refl

@@ -55,8 +55,16 @@ pub data Expect : Type 0 where
 abbrev pub side : ℕ → Bool
 side n = nat_le 1 n && nat_le n 16
 
+-- after a head of this size
+abbrev pub begun : ℕ → ℕ → Option Expect
+begun w h = cond (side w && side h) (Some (rows (shape_of w 0 []) (h - 1))) None
+
+-- after a row of the board that so many follow
+abbrev pub after_row : Shape → ℕ → Expect
+after_row b more = cond (more == 0) (first b) (rows b (more - 1))
+
 abbrev pub with_board : ℕ → ℕ → Option Shape → Result Expect Refusal
-with_board n more (Some b) = Ok (cond (more == 0) (first b) (rows b (more - 1)))
+with_board n more (Some b) = Ok (after_row b more)
 with_board n more None = Err (refusal BadRow n)
 
 abbrev pub first_want : List ℕ → Option Shape
@@ -65,6 +73,10 @@ first_want x = blank (length x) then (λ m. with_want m x)
 abbrev pub with_molecule : ℕ → Shape → Option Shape → Result Expect Refusal
 with_molecule n b (Some m) = Ok (wants b m)
 with_molecule n b None = Err (refusal BadWant n)
+
+-- the molecule with a further row
+abbrev pub next_want : Shape → List ℕ → Result Shape Fault
+next_want m x = cond (nat_lt m.height 16) (elim (with_want m x) [ Some k ↦ Ok k | None ↦ Err BadWant ]) (Err LineForm)
 
 -- what is expected and the form of line n, judged together
 abbrev pub next : ℕ → Expect → Form → Result Expect Refusal

@@ -1,17 +1,16 @@
-ghost use Rattle.std.specs.Prelude.{◌≡◌, ◌<◌};
+ghost use Rattle.std.specs.Prelude.{◌≡◌, ℕ, ◌<◌};
 ghost use Rattle.text.specs.Lines.{bytes};
-ghost use Rattle.molecules.specs.Molecules.{told as told_molecule};
-ghost use Rattle.atoms_text.specs.Reading.{side, first_want, form_of, taken, finish, read_level, told, ReadsExactly};
-ghost use Rattle.atoms_text.specs.Reader.{said, view, after_row, told_reader};
+ghost use Rattle.text.specs.Reading.{seen};
+ghost use Rattle.pictures.specs.Pictures.{shape};
+ghost use Rattle.molecules.specs.Molecules.{wanted, told as told_molecule};
+ghost use Rattle.atoms_text.specs.Reading.{begun, after_row, first_want, next_want, next, form_of, taken, finish, read_level, told, ReadsExactly};
+ghost use Rattle.atoms_text.specs.Reader.{said, view, told_option, told_want, told_at};
 
 use atoms::AtomLevel;
 use molecules::Molecule;
 use pictures::Picture;
 use refusals::{Fault, Refusal};
-use text::{Line, is_text, next_line};
-
-/// The most cells that a board or a molecule is wide and high.
-const LONGEST_SIDE: u32 = 16;
+use text::{Line, LineReader, ReadText, is_text, read_lines};
 
 /// The form of a line.
 #[derive(Clone, Copy)]
@@ -27,27 +26,19 @@ enum Form<'a> {
     Other,
 }
 
-/// What the reader expects next.
+/// A level that is being read: which line is due, and what the lines before it drew.
 #[derive(Clone, Copy)]
-enum Expected {
+enum Reader {
     /// The line with the board's size.
     Head,
     /// A row of the board, and this many after it.
-    Rows(u8),
+    Rows(Picture, usize),
     /// The first row of the molecule.
-    FirstWant,
+    FirstWant(Picture),
     /// A further row of the molecule, or the closing bracket.
-    Wants,
+    Wants(Picture, Molecule),
     /// No line.
-    End,
-}
-
-/// A level that is being read.
-#[derive(Clone, Copy)]
-struct Reader {
-    expected: Expected,
-    board: Picture,
-    molecule: Molecule,
+    End(Picture, Molecule),
 }
 
 // The form that a line has: each is told from the others by its first word.
@@ -67,21 +58,16 @@ fn form_of<'a>(line: Line<'a>) -> Form<'a>
     }
 }
 
-fn is_side(length: u32) -> bool
-    ensures { result ≡ side length }
+// An empty board of this size, and how many rows follow its first.
+fn begin(width: u32, height: u32) -> Option<Reader>
+    ensures { told_option result ≡ begun width height }
 {
-    1 <= length && length <= LONGEST_SIDE
-}
-
-// What is expected after a row of the board that this many follow.
-fn after_row(more: u8) -> Expected
-    ensures { result ≡ after_row more }
-{
-    if more == 0 {
-        Expected::FirstWant
-    } else {
-        Expected::Rows(more - 1)
+    let height = height as usize;
+    if !(1..=Picture::LONGEST_SIDE).contains(&height) {
+        return None;
     }
+    let board = Picture::new(width as usize)?;
+    Some(Reader::Rows(board, height - 1))
 }
 
 // The first row of a molecule, which settles its width.
@@ -91,76 +77,50 @@ fn first_row(row: &[u8]) -> Option<Molecule>
     Molecule::new(row.len())?.with_row(row)
 }
 
+// A further row of a molecule, which has at most sixteen.
+fn next_row(molecule: &Molecule, row: &[u8]) -> Result<Molecule, Fault>
+    ensures { told_want result ≡ next_want (wanted molecule.now) row.now }
+{
+    if usize::from(molecule.picture().grid().height) >= Picture::LONGEST_SIDE {
+        return Err(Fault::LineForm);
+    }
+    molecule.with_row(row).ok_or(Fault::BadWant)
+}
+
 impl Reader {
-    // Takes one line.
-    fn take(self, line: Line, number: usize) -> Result<Reader, Refusal>
-        ensures { told_reader result ≡ taken (view self) number (bytes line.entry) }
+    // After a row of the board that this many follow.
+    fn after_row(board: Picture, more: usize) -> Reader
+        ensures { view result ≡ after_row (shape board) more }
     {
-        match (self.expected, form_of(line)) {
-            (Expected::Head, Form::Size(width, height)) => {
-                if !is_side(height) {
-                    return Err(Refusal {
-                        fault: Fault::BoardSize,
-                        line: number,
-                    });
-                }
-                match Picture::new(width as usize) {
-                    Some(board) => Ok(Reader {
-                        expected: Expected::Rows(height as u8 - 1),
-                        board,
-                        molecule: self.molecule,
-                    }),
-                    None => Err(Refusal {
-                        fault: Fault::BoardSize,
-                        line: number,
-                    }),
-                }
+        if more == 0 {
+            Reader::FirstWant(board)
+        } else {
+            Reader::Rows(board, more - 1)
+        }
+    }
+
+    // What is due and the form of the next line, judged together.
+    fn after(self, form: Form) -> Result<Reader, Fault>
+        ensures { (n : ℕ) → told_at n result ≡ next n (view self) (said form.entry) }
+    {
+        match (self, form) {
+            (Reader::Head, Form::Size(width, height)) => begin(width, height).ok_or(
+                Fault::BoardSize,
+            ),
+            (Reader::Rows(board, more), Form::Row(row)) => {
+                let board = board.with_row(row).ok_or(Fault::BadRow)?;
+                Ok(Reader::after_row(board, more))
             }
-            (Expected::Rows(more), Form::Row(row)) => match self.board.with_row(row) {
-                Some(board) => Ok(Reader {
-                    expected: after_row(more),
-                    board,
-                    molecule: self.molecule,
-                }),
-                None => Err(Refusal {
-                    fault: Fault::BadRow,
-                    line: number,
-                }),
-            },
-            (Expected::FirstWant, Form::Want(row)) => match first_row(row) {
-                Some(molecule) => Ok(Reader {
-                    expected: Expected::Wants,
-                    board: self.board,
-                    molecule,
-                }),
-                None => Err(Refusal {
-                    fault: Fault::BadWant,
-                    line: number,
-                }),
-            },
-            (Expected::Wants, Form::Want(row))
-                if (self.molecule.picture().grid().height as u32) < LONGEST_SIDE => {
-                match self.molecule.with_row(row) {
-                    Some(molecule) => Ok(Reader {
-                        expected: Expected::Wants,
-                        board: self.board,
-                        molecule,
-                    }),
-                    None => Err(Refusal {
-                        fault: Fault::BadWant,
-                        line: number,
-                    }),
-                }
+            (Reader::FirstWant(board), Form::Want(row)) => {
+                let molecule = first_row(row).ok_or(Fault::BadWant)?;
+                Ok(Reader::Wants(board, molecule))
             }
-            (Expected::Wants, Form::Close) => Ok(Reader {
-                expected: Expected::End,
-                board: self.board,
-                molecule: self.molecule,
-            }),
-            _ => Err(Refusal {
-                fault: Fault::LineForm,
-                line: number,
-            }),
+            (Reader::Wants(board, molecule), Form::Want(row)) => {
+                let molecule = next_row(&molecule, row)?;
+                Ok(Reader::Wants(board, molecule))
+            }
+            (Reader::Wants(board, molecule), Form::Close) => Ok(Reader::End(board, molecule)),
+            _ => Err(Fault::LineForm),
         }
     }
 
@@ -169,19 +129,22 @@ impl Reader {
         requires { 0 < number }
         ensures { told result ≡ finish number (view self) }
     {
-        match self.expected {
-            Expected::End => match AtomLevel::new(&self.board, &self.molecule) {
-                Ok(level) => Ok(level),
-                Err(fault) => Err(Refusal {
-                    fault,
-                    line: number - 1,
-                }),
-            },
-            _ => Err(Refusal {
-                fault: Fault::LineForm,
-                line: number,
-            }),
+        match self {
+            Reader::End(board, molecule) => AtomLevel::new(&board, &molecule).map_err(
+                |fault| fault.at(number - 1),
+            ),
+            _ => Err(Fault::LineForm.at(number)),
         }
+    }
+}
+
+impl LineReader for Reader {
+    type Error = Refusal;
+
+    ghost Takes = { λ reader n line r. seen view r ≡ taken (view reader) n line };
+
+    fn take(self, line: Line, number: usize) -> Result<Reader, Refusal> {
+        self.after(form_of(line)).map_err(|fault| fault.at(number))
     }
 }
 
@@ -192,22 +155,8 @@ pub fn read_level(text: &[u8]) -> Result<AtomLevel, Refusal>
     ensures exactly { ReadsExactly text.now }
 {
     if !is_text(text) {
-        return Err(Refusal {
-            fault: Fault::NotText,
-            line: 0,
-        });
+        return Err(Fault::NotText.at(0));
     }
-    let mut reader = Reader {
-        expected: Expected::Head,
-        board: Picture::blank(),
-        molecule: Molecule::blank(),
-    };
-    let mut at = 0;
-    let mut number = 1;
-    while let Some(line) = next_line(text, at) {
-        reader = reader.take(line, number)?;
-        at = line.text.len() + 1;
-        number += 1;
-    }
+    let ReadText { reader, number, .. } = read_lines(Reader::Head, text)?;
     reader.finish(number)
 }

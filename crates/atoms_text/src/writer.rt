@@ -1,5 +1,5 @@
-ghost use Rattle.std.specs.Prelude.{◌≡◌, ◌*◌, ◌<◌, [], ◌∷◌, ◌++◌, take, drop, Ok};
-ghost use Rattle.pen.specs.Ink.{ink, Inked, put};
+ghost use Rattle.std.specs.Prelude.{◌≡◌, [], ◌∷◌, ◌++◌, Ok};
+ghost use Rattle.pen.specs.Ink.{Writes, put};
 ghost use Rattle.text.specs.Lines.{join_lines};
 ghost use Rattle.pictures.specs.Pictures.{shape};
 ghost use Rattle.atoms.specs.Level.{atoms};
@@ -7,8 +7,8 @@ ghost use Rattle.atoms_text.specs.Reading.{read_level};
 ghost use Rattle.atoms_text.specs.Writing.{drawn_line, picture_lines, level_text, writes};
 
 use atoms::AtomLevel;
-use pen::Pen;
-use pictures::Picture;
+use pen::{Compose, Pen, write_text};
+use pictures::{Cell, Picture};
 use refusals::{Fault, Refusal};
 
 /// Writes the text of a level at the front of `out`, and answers its length. If it does not fit, `out` stays as it was.
@@ -17,61 +17,50 @@ pub fn write_level(level: &AtomLevel, out: &mut [u8]) -> Result<usize, Refusal>
     ensures answers { result ≡ writes (atoms level.now) out.old }
     ensures reads { read_level (level_text (atoms level.now)) ≡ Ok (atoms level.now) }
 {
-    let long = out.len();
-    let mut measure = Pen::dry(long);
-    compose(level, &mut measure);
-    if measure.is_over() {
-        return Err(Refusal {
-            fault: Fault::NoRoom,
-            line: 0,
-        });
-    }
-    let mut pen = Pen::new(out);
-    compose(level, &mut pen);
-    Ok(long - pen.room())
+    write_text(&LevelText(level), out).ok_or(Fault::NoRoom.at(0))
 }
 
-// What `write_level` writes, with either pen.
-fn compose(level: &AtomLevel, pen: &mut Pen)
-    ensures wrote { Inked (level_text (atoms level.now)) (ink pen.old) (ink pen.new) }
-    ensures same { pen.new.out.ghost_name ≡ pen.old.out.ghost_name }
-{
-    let board = level.board();
-    let molecule = level.molecule().picture();
-    let size = board.grid();
-    pen.put(b"(atomix ");
-    pen.put_decimal(size.width as u32);
-    pen.put(b" ");
-    pen.put_decimal(size.height as u32);
-    pen.put(b"\n");
-    compose_picture(b"row", &board, pen);
-    compose_picture(b"want", &molecule, pen);
-    pen.put(b")\n");
+/// A level, as the text that says it.
+#[derive(Clone, Copy)]
+struct LevelText<'a>(&'a AtomLevel);
+
+impl<'a> Compose for LevelText<'a> {
+    ghost text = { λ t. level_text (atoms t.0.now) };
+
+    fn compose(&self, pen: &mut Pen) {
+        let board = self.0.board();
+        let molecule = self.0.molecule().picture();
+        let size = board.grid();
+        pen.put(b"(atomix ");
+        pen.put_decimal(size.width);
+        pen.put(b" ");
+        pen.put_decimal(size.height);
+        pen.put(b"\n");
+        compose_picture(b"row", &board, pen);
+        compose_picture(b"want", &molecule, pen);
+        pen.put(b")\n");
+    }
 }
 
 // A line `(KEYWORD X)` for each row.
 fn compose_picture(keyword: &[u8], picture: &Picture, pen: &mut Pen)
-    ensures wrote { Inked (join_lines (picture_lines keyword.now (shape picture.now))) (ink pen.old) (ink pen.new) }
-    ensures same { pen.new.out.ghost_name ≡ pen.old.out.ghost_name }
+    ensures { Writes (join_lines (picture_lines keyword.now (shape picture.now))) pen.old pen.new }
 {
-    for row in 0..picture.grid().height as usize {
-        compose_row(keyword, picture, row, pen);
+    let width = usize::from(picture.grid().width);
+    for row in picture.cells().chunks(width) {
+        compose_row(keyword, row, pen);
     }
 }
 
-// The line `(KEYWORD X)` of one row.
-fn compose_row(keyword: &[u8], picture: &Picture, row: usize, pen: &mut Pen)
-    requires { row < (shape picture.now).height }
-    ensures wrote { Inked (drawn_line keyword.now (take (shape picture.now).width (drop ((shape picture.now).width * row) (shape picture.now).cells)) ++ (10 ∷ [])) (ink pen.old) (ink pen.new) }
-    ensures same { pen.new.out.ghost_name ≡ pen.old.out.ghost_name }
+// The line `(KEYWORD X)` of a row of these cells.
+fn compose_row(keyword: &[u8], row: &[Cell], pen: &mut Pen)
+    ensures { Writes (drawn_line keyword.now row.now ++ (10 ∷ [])) pen.old pen.new }
 {
-    let width = picture.grid().width as usize;
     pen.put(b"(");
     pen.put(keyword);
     pen.put(b" ");
-    for column in 0..width {
-        let symbol = picture.cell(width * row + column).symbol();
-        pen.put(&[symbol]);
+    for cell in row {
+        pen.put(&[u8::from(*cell)]);
     }
     pen.put(b")\n");
 }

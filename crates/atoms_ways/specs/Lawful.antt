@@ -12,7 +12,8 @@ use Rattle.atoms.specs.declared.level.AtomLevel.{AtomLevel}
 use Rattle.atoms.specs.Level.{Atoms, atoms, Valid, count, slides}
 use Rattle.atoms.specs.Moves.{atom_at}
 use Rattle.atoms.proofs.Making.{level_valid}
-use Rattle.atoms.proofs.Standing.{Standing, reached_stands, atom_there, atom_at_below}
+use Rattle.atoms.proofs.Finding.{atom_at_below}
+use Rattle.atoms.proofs.Standing.{Standing, reached_stands, atom_there}
 use Rattle.ways.specs.Kinds.{Spells, Lawful}
 use Rattle.atoms_ways.specs.declared.AtomMove.{AtomMove}
 use Rattle.atoms_ways.specs.Moves.{move_of, move_in, numbered, line_of, atom_notation}

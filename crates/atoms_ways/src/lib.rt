@@ -1,8 +1,8 @@
 //! How moves of atom levels are written: `(move 0 2 right)` slides the atom on row 0 and column 2 to the right.
 #![tactic(auto)]
 
-ghost use Rattle.std.specs.Prelude.{◌≡◌, ◌<◌};
-ghost use Rattle.pen.specs.Ink.{ink, Inked};
+ghost use Rattle.std.specs.Prelude.{◌≡◌, refl, ◌<◌};
+ghost use Rattle.pen.specs.Ink.{Writes};
 ghost use Rattle.text.specs.Lines.{bytes};
 ghost use Rattle.atoms.specs.Level.{atoms};
 ghost use Rattle.atoms_ways.specs.Moves.{move_in, move_text, atom_notation};
@@ -14,9 +14,6 @@ use grid::Direction;
 use pen::Pen;
 use text::Line;
 use ways::Kind;
-
-/// The moves of each atom, one for each direction.
-const DIRECTIONS: u32 = 4;
 
 /// The most atoms that a level may have.
 const MOST_ATOMS: u32 = 16;
@@ -46,7 +43,7 @@ fn read_line(line: Line) -> Option<AtomMove>
     if !rest.is_empty() || row >= THREE_DIGITS || column >= THREE_DIGITS {
         return None;
     }
-    let direction = Direction::from_word(spelled)?;
+    let direction = Direction::try_from(spelled).ok()?;
     Some(AtomMove {
         row,
         column,
@@ -56,9 +53,7 @@ fn read_line(line: Line) -> Option<AtomMove>
 
 // Writes the line `(move R C DIRECTION)`.
 fn write_line(written: AtomMove, pen: &mut Pen)
-    requires { (written.row < 256) × (written.column < 256) }
-    ensures wrote { Inked (move_text written) (ink pen.old) (ink pen.new) }
-    ensures same { pen.new.out.ghost_name ≡ pen.old.out.ghost_name }
+    ensures { Writes (move_text written) pen.old pen.new }
 {
     pen.put(b"(move ");
     pen.put_decimal(written.row);
@@ -74,13 +69,15 @@ impl Kind for AtomKind {
 
     type Written = AtomMove;
 
+    const MOVES: u32 = MOST_ATOMS * Direction::COUNT;
+
+    ghost MOVES = { 64 };
+
     ghost notation = { λ z. atom_notation (atoms z.0) };
 
-    ghost lawful = { λ z. Lawful.lawful (atoms z.0) (level_valid z.0) };
+    ghost counted = { λ _. refl };
 
-    fn moves(&self) -> u32 {
-        MOST_ATOMS * DIRECTIONS
-    }
+    ghost lawful = { λ z. Lawful.lawful (atoms z.0) (level_valid z.0) };
 
     fn start(&self) -> Position {
         self.0.start()
@@ -100,15 +97,15 @@ impl Kind for AtomKind {
 
     fn move_number(&self, at: &Position, written: &AtomMove) -> Option<u32> {
         let atom = self.0.atom_at(at, written.row, written.column)?;
-        Some(atom * DIRECTIONS + written.direction.number())
+        Some(atom * Direction::COUNT + u32::from(written.direction))
     }
 
     fn write_move(&self, at: &Position, number: u32, pen: &mut Pen) {
-        let atom = (number / DIRECTIONS) as usize;
+        let atom = (number / Direction::COUNT) as usize;
         if atom >= at.cells.len() {
             return;
         }
-        let Some(direction) = Direction::from_number(number % DIRECTIONS) else {
+        let Ok(direction) = Direction::try_from(number % Direction::COUNT) else {
             return;
         };
         let cell = at.cells[atom];

@@ -1,16 +1,12 @@
--- Directions read back from their numbers and words, and a step is to another cell of the board. Assumes nothing.
+-- Directions read back from their numbers, places from their cells, and a step is to another cell of the board.
+-- Assumes nothing.
 use Rattle.std.proofs.Common.{◌≡◌, ℕ, zero, suc, ◌+◌, ◌-◌, ◌*◌, ◌/◌, ◌%◌, ◌<◌, Some, sym, refl, ap, ◌∙◌, mul_comm, arith, lit<}
-use Rattle.std.proofs.lemmas.Nat.{div-add-mod', mul-add-lt, div_below, mod_below, div-mul-add}
+use Rattle.std.proofs.lemmas.Nat.{div-add-mod', mul-add-lt, div_below, mod_below, div-mul-add, mod-mul-add}
 use Rattle.std.proofs.lemmas.Bool.Decides.{nat_tests}
 use Rattle.grid.specs.declared.Direction.{Direction}
 use Rattle.grid.specs.declared.Direction.TheVariants.{Up, Down, Left, Right}
-use Rattle.grid.specs.Grid.{number_of, direction_of, word_of, of_word, neighbour, StepsOn}
-
-pub of_word_word_of : (d : Direction) → of_word (word_of d) ≡ Some d
-of_word_word_of Up = refl
-of_word_word_of Down = refl
-of_word_word_of Left = refl
-of_word_word_of Right = refl
+use Rattle.grid.specs.declared.Place.{Place}
+use Rattle.grid.specs.Grid.{number_of, direction_of, neighbour, CellReadsBack, StepsOn}
 
 pub direction_of_number_of : (d : Direction) → direction_of (number_of d) ≡ Some d
 direction_of_number_of Up = refl
@@ -48,6 +44,16 @@ lies (suc n) h cell on = record {
 rows_apart : (w r s c : ℕ) → c < w → (r ≡ s → ⊥) → r * w + c ≡ s * w + c → ⊥
 rows_apart w r s c h apart same = apart (sym (div-mul-add r w c h) ∙ ap (λ k. k / w) same ∙ div-mul-add s w c h)
 
+pub cell_reads_back : (w h : ℕ) (p : Place) → CellReadsBack w h p
+cell_reads_back w h p cell e =
+    let row : p.row < h = grind (arith, nat_tests) in
+    let column : p.column < w = grind (arith, nat_tests) in
+    let is : cell ≡ p.row * w + p.column = grind (arith, nat_tests) in
+    let on = mul-add-lt p.row w p.column h row column in
+    let same_row : cell / w ≡ p.row = ap (λ k. k / w) is ∙ div-mul-add p.row w p.column column in
+    let same_column : cell % w ≡ p.column = ap (λ k. k % w) is ∙ mod-mul-add p.row w p.column column in
+    grind (arith, nat_tests)
+
 pub steps_on : (w h cell : ℕ) (d : Direction) → StepsOn w h cell d
 steps_on w h cell Up t e =
     let l = lies w h cell (grind (arith, nat_tests)) in
@@ -73,6 +79,3 @@ steps_on w h cell Right t e =
 
 pub neighbour_inside : (w h c : ℕ) (d : Direction) (t : ℕ) → neighbour w h c d ≡ Some t → t < w * h
 neighbour_inside w h c d t e = (steps_on w h c d t e).0
-
-pub neighbour_other : (w h c : ℕ) (d : Direction) (t : ℕ) → neighbour w h c d ≡ Some t → (t ≡ c → ⊥)
-neighbour_other w h c d t e = (steps_on w h c d t e).1

@@ -1,8 +1,11 @@
 -- Directions, and the cells of a board in reading order. Assumes nothing.
-use Rattle.std.specs.Prelude.{◌≡◌, ℕ, ◌+◌, ◌-◌, ◌*◌, ◌/◌, ◌%◌, ◌<◌, cond, List, Some, None, codes, Option, ◌==◌, ◌≢◌, nat_lt}
+use Rattle.std.specs.Prelude.{◌≡◌, ℕ, ◌+◌, ◌-◌, ◌*◌, ◌/◌, ◌%◌, ◌<◌, ◌&&◌, cond, List, Some, None, codes, Option, Result, ◌==◌, ◌≢◌, nat_lt}
+use Rattle.std.specs.Result.{result_ok}
 use Rattle.std.specs.Str.{bytes_eq}
 use Rattle.grid.specs.declared.Direction.{Direction}
 use Rattle.grid.specs.declared.Direction.TheVariants.{Up, Down, Left, Right}
+use Rattle.grid.specs.declared.Place.{Place}
+use Rattle.grid.specs.declared.UnknownDirection.{UnknownDirection}
 
 abbrev pub number_of : Direction → ℕ
 number_of Up = 0
@@ -37,6 +40,14 @@ column w cell = cell % w
 abbrev pub at : ℕ → ℕ → ℕ → ℕ
 at w r c = r * w + c
 
+-- where a cell lies on a board w cells wide and h high: nowhere if it is not on the board
+abbrev pub place_of : ℕ → ℕ → ℕ → Option Place
+place_of w h cell = cond (nat_lt cell (w * h)) (Some (record { row = row w cell; column = column w cell })) None
+
+-- the cell at a place: none if the place is not on the board
+abbrev pub cell_at : ℕ → ℕ → Place → Option ℕ
+cell_at w h p = cond (nat_lt p.row h && nat_lt p.column w) (Some (at w p.row p.column)) None
+
 -- one step on from the row r and the column c of a board w cells wide and h high: none past the edge
 abbrev pub beside : ℕ → ℕ → ℕ → ℕ → Direction → Option ℕ
 beside w h r c Up = cond (r == 0) None (Some (at w (r - 1) c))
@@ -60,6 +71,28 @@ NumbersOne m = (d : Direction) → direction_of m ≡ Some d → number_of d ≡
 abbrev pub WordReadsBack : Direction → Type 0
 WordReadsBack d = of_word (word_of d) ≡ Some d
 
+-- the cell at a cell's place is that cell
+abbrev pub PlaceReadsBack : ℕ → ℕ → ℕ → Type 0
+PlaceReadsBack w h cell = (p : Place) → place_of w h cell ≡ Some p → cell_at w h p ≡ Some cell
+
+-- the place of the cell at a place is that place
+abbrev pub CellReadsBack : ℕ → ℕ → Place → Type 0
+CellReadsBack w h p = (cell : ℕ) → cell_at w h p ≡ Some cell → place_of w h cell ≡ Some p
+
 -- one step on is another cell of the board
 abbrev pub StepsOn : ℕ → ℕ → ℕ → Direction → Type 0
 StepsOn w h cell d = (t : ℕ) → neighbour w h cell d ≡ Some t → (t < w * h) × (t ≢ cell)
+
+-- a direction's number
+pub record IsNumberOf (d : Direction) (m : ℕ) : Type 0 where
+  pub named : m ≡ number_of d
+  pub back : NumberReadsBack d
+
+-- the direction that a number names, or an error where it names none
+pub record SaysNumber (m : ℕ) (r : Result Direction UnknownDirection) : Type 0 where
+  pub named : result_ok r ≡ direction_of m
+  pub back : NumbersOne m
+
+-- the direction that a word spells, or an error where it spells none
+abbrev pub SaysWord : List ℕ → Result Direction UnknownDirection → Type 0
+SaysWord w r = result_ok r ≡ of_word w

@@ -1,13 +1,12 @@
 //! Rectangular boards: directions, cells in reading order, and the cell beside a cell.
 #![tactic(auto)]
 
-ghost use Rattle.std.specs.Prelude.{◌≡◌, ◌+◌, ◌*◌, ◌<◌};
-ghost use Rattle.std.specs.Str.{bytes_eq};
-ghost use Rattle.grid.specs.Grid.{number_of, direction_of, word_of, of_word, neighbour};
-ghost use Rattle.grid.specs.Grid.{NumberReadsBack, NumbersOne, WordReadsBack, StepsOn};
+ghost use Rattle.std.specs.Prelude.{◌≡◌, ◌*◌};
+ghost use Rattle.grid.specs.Grid.{word_of, place_of, cell_at, neighbour};
+ghost use Rattle.grid.specs.Grid.{SaysNumber, SaysWord, IsNumberOf, WordReadsBack, PlaceReadsBack, CellReadsBack, StepsOn};
 
 /// One of the four ways along a row or a column.
-#[derive(Clone, Copy)]
+#[derive(Clone, Copy, Debug, PartialEq, Eq)]
 pub enum Direction {
     Up,
     Down,
@@ -15,57 +14,21 @@ pub enum Direction {
     Right,
 }
 
+/// A number or a word that names no direction.
+#[derive(Clone, Copy, Debug, PartialEq, Eq)]
+pub struct UnknownDirection;
+
 impl Direction {
-    /// The direction with this number: 0 up, 1 down, 2 left, 3 right.
-    pub fn from_number(number: u32) -> Option<Direction>
-        ensures named { result ≡ direction_of number }
-        ensures back { NumbersOne number }
-    {
-        match number {
-            0 => Some(Direction::Up),
-            1 => Some(Direction::Down),
-            2 => Some(Direction::Left),
-            3 => Some(Direction::Right),
-            _ => None,
-        }
-    }
+    /// How many directions there are.
+    pub const COUNT: u32 = 4;
 
-    /// Its number, as move numbers count directions.
-    pub fn number(self) -> u32
-        ensures named { result ≡ number_of self }
-        ensures back { NumberReadsBack self }
-    {
-        match self {
-            Direction::Up => 0,
-            Direction::Down => 1,
-            Direction::Left => 2,
-            Direction::Right => 3,
-        }
-    }
-
-    /// The direction that this word spells.
-    pub fn from_word(word: &[u8]) -> Option<Direction>
-        ensures { result ≡ of_word word.now }
-    {
-        if Direction::Up.is_spelled(word) {
-            Some(Direction::Up)
-        } else if Direction::Down.is_spelled(word) {
-            Some(Direction::Down)
-        } else if Direction::Left.is_spelled(word) {
-            Some(Direction::Left)
-        } else if Direction::Right.is_spelled(word) {
-            Some(Direction::Right)
-        } else {
-            None
-        }
-    }
-
-    // Whether this word spells it.
-    fn is_spelled(self, word: &[u8]) -> bool
-        ensures { result ≡ bytes_eq word.now (word_of self) }
-    {
-        word == self.word()
-    }
+    /// The directions in the order of their numbers.
+    pub const ALL: [Direction; 4] = [
+        Direction::Up,
+        Direction::Down,
+        Direction::Left,
+        Direction::Right,
+    ];
 
     /// The word that spells it.
     pub fn word(self) -> &'static [u8]
@@ -81,11 +44,63 @@ impl Direction {
     }
 }
 
+/// A direction's number, as move numbers count directions: 0 up, 1 down, 2 left, 3 right.
+impl From<Direction> for u32 {
+    ghost from_gives = { IsNumberOf };
+
+    fn from(direction: Direction) -> u32 {
+        match direction {
+            Direction::Up => 0,
+            Direction::Down => 1,
+            Direction::Left => 2,
+            Direction::Right => 3,
+        }
+    }
+}
+
+/// The direction with a number.
+impl TryFrom<u32> for Direction {
+    type Error = UnknownDirection;
+
+    ghost try_from_gives = { SaysNumber };
+
+    fn try_from(number: u32) -> Result<Direction, UnknownDirection> {
+        match number {
+            0 => Ok(Direction::Up),
+            1 => Ok(Direction::Down),
+            2 => Ok(Direction::Left),
+            3 => Ok(Direction::Right),
+            _ => Err(UnknownDirection),
+        }
+    }
+}
+
+/// The direction that a word spells.
+impl<'a> TryFrom<&'a [u8]> for Direction {
+    type Error = UnknownDirection;
+
+    ghost try_from_gives = { λ word result. SaysWord word.now result };
+
+    fn try_from(word: &'a [u8]) -> Result<Direction, UnknownDirection> {
+        Direction::ALL
+            .into_iter()
+            .find(|direction| word == direction.word())
+            .ok_or(UnknownDirection)
+    }
+}
+
 /// A board's size. Its cells are numbered from 0 in reading order: rows from the top, each from the left.
-#[derive(Clone, Copy)]
+#[derive(Clone, Copy, Debug, PartialEq, Eq)]
 pub struct Grid {
     pub width: u8,
     pub height: u8,
+}
+
+/// A row of a board and a column, both from 0.
+#[derive(Clone, Copy, Debug, PartialEq, Eq)]
+pub struct Place {
+    pub row: usize,
+    pub column: usize,
 }
 
 impl Grid {
@@ -93,7 +108,35 @@ impl Grid {
     pub fn cells(self) -> usize
         ensures { result ≡ self.width * self.height }
     {
-        self.width as usize * self.height as usize
+        usize::from(self.width) * usize::from(self.height)
+    }
+
+    /// Where a cell lies; nowhere if it is not on the board.
+    pub fn place(self, cell: usize) -> Option<Place>
+        ensures named { result ≡ place_of self.width self.height cell }
+        ensures back { PlaceReadsBack self.width self.height cell }
+    {
+        if cell >= self.cells() {
+            return None;
+        }
+        let width = usize::from(self.width);
+        Some(Place {
+            row: cell / width,
+            column: cell % width,
+        })
+    }
+
+    /// The cell at a place; none if the place is not on the board.
+    pub fn cell(self, place: Place) -> Option<usize>
+        ensures named { result ≡ cell_at self.width self.height place }
+        ensures back { CellReadsBack self.width self.height place }
+    {
+        let width = usize::from(self.width);
+        if place.row < usize::from(self.height) && place.column < width {
+            Some(place.row * width + place.column)
+        } else {
+            None
+        }
     }
 
     /// The cell one step on from `cell`; none past the edge, and none from a cell that is not on the board.
@@ -101,19 +144,25 @@ impl Grid {
         ensures named { result ≡ neighbour self.width self.height cell direction }
         ensures onward { StepsOn self.width self.height cell direction }
     {
-        if cell >= self.cells() {
-            return None;
-        }
-        let width = self.width as usize;
-        let height = self.height as usize;
-        let row = cell / width;
-        let column = cell % width;
-        match direction {
-            Direction::Up if row > 0 => Some((row - 1) * width + column),
-            Direction::Down if row + 1 < height => Some((row + 1) * width + column),
-            Direction::Left if column > 0 => Some(row * width + (column - 1)),
-            Direction::Right if column + 1 < width => Some(row * width + (column + 1)),
-            _ => None,
-        }
+        let Place { row, column } = self.place(cell)?;
+        let next = match direction {
+            Direction::Up => Place {
+                row: row.checked_sub(1)?,
+                column,
+            },
+            Direction::Down => Place {
+                row: row + 1,
+                column,
+            },
+            Direction::Left => Place {
+                row,
+                column: column.checked_sub(1)?,
+            },
+            Direction::Right => Place {
+                row,
+                column: column + 1,
+            },
+        };
+        self.cell(next)
     }
 }

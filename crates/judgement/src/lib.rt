@@ -28,11 +28,7 @@ pub fn report(heap: Global, judgement: Result<u32, Refusal>) -> Result<String, A
     ensures { IfOk result (λ s. string_bytes s ≡ report_text judgement) }
 {
     match judgement {
-        Ok(n) => format!(in heap; "(accepted {n})\n"),
-        Err(refusal) => {
-            let number = refusal.fault.number();
-            let line = refusal.line;
-            format!(in heap; "(fault {number} {line})\n")
-        }
+        Ok(moves) => format!(in heap; "(accepted {moves})\n"),
+        Err(refusal) => format!(in heap; "{refusal}\n"),
     }
 }

@@ -2,7 +2,7 @@
 #![tactic(auto)]
 
 ghost use Rattle.std.specs.Prelude.{◌≡◌};
-ghost use Rattle.levels.specs.Levels.{says_atoms, read_level, told, ReadsExactly};
+ghost use Rattle.levels.specs.Levels.{read_level, told, ReadsExactly};
 
 use atoms::AtomLevel;
 use refusals::Refusal;
@@ -23,17 +23,9 @@ pub fn read_level(text: &[u8]) -> Result<Level, Refusal>
     ensures reads { told result ≡ read_level text.now }
     ensures exactly { ReadsExactly text.now }
 {
-    if says_atoms(text) {
-        let level = atoms_text::read_level(text)?;
-        Ok(Level::Atoms(level))
+    if text.starts_with(ATOMS) {
+        atoms_text::read_level(text).map(Level::Atoms)
     } else {
-        let level = tiles_text::read_level(text)?;
-        Ok(Level::Tiles(level))
+        tiles_text::read_level(text).map(Level::Tiles)
     }
-}
-
-fn says_atoms(text: &[u8]) -> bool
-    ensures { result ≡ says_atoms text.now }
-{
-    text.len() >= ATOMS.len() && &text[..ATOMS.len()] == ATOMS
 }

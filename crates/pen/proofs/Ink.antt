@@ -1,10 +1,11 @@
 -- Laws of what a pen writes: nothing, one text after the other, and a whole text from the front. Assumes nothing.
-use Rattle.std.proofs.Common.{◌≡◌, ℕ, ◌+◌, ◌-◌, ◌<◌, ◌≤◌, Bool, true, false, ◌||◌, ltb, List, [], ◌++◌, length, get_or, take, drop, Some, None, sym, refl, ap, ◌∙◌, subst, append_assoc, arith}
-use Rattle.std.proofs.lemmas.List.{take_at, take_more, drop_at, drop-drop, flat_map_more, length-append, length-take-le, take-append-drop}
+use Rattle.std.proofs.Common.{◌≡◌, ℕ, ◌+◌, ◌-◌, ◌<◌, ◌≤◌, Bool, true, false, ◌||◌, ltb, cond, ok_or, List, [], ◌++◌, length, take, drop, Some, None, Ok, Err, Option, Result, sym, refl, ap, ◌∙◌, subst, append_assoc, arith}
+use Rattle.std.specs.Prelude.{nat_le}
+use Rattle.std.proofs.lemmas.List.{take_at, drop_at, drop-drop, length-append, length-take-le, take-append-drop}
 use Rattle.std.proofs.lemmas.Bool.{or_parts, le-ltb, ltb-false, ltb-true}
 use Rattle.std.proofs.lemmas.Bool.Decides.{nat_tests}
-use Rattle.std.specs.List.{flat_map}
-use Rattle.pen.specs.Ink.{Ink, fresh_ink, dry_ink, pasted, Inked, written, put, count}
+use Rattle.pen.specs.declared.Pen.{Pen}
+use Rattle.pen.specs.Ink.{Ink, ink, fresh_ink, dry_ink, pasted, Inked, Writes, written, put, count}
 
 -- a pen that was not over is over exactly where the text is longer than the room
 pub measured : {text : List ℕ} {a b : Ink} → Inked text a b → a.over ≡ false → b.over ≡ ltb a.room (length text)
@@ -70,28 +71,31 @@ inked_more {t = t} {u = u} {a = a} {b = b} f g =
       long = g.long ∙ f.long;
     }
 
--- a loop that writes f of each element, after one turn more
-pub inked_turn : {X : Type 0} (f : X → List ℕ) (xs : List X) (i : ℕ) (d : X) {a b c : Ink} → i < length xs
-    → Inked (flat_map f (take i xs)) a b → Inked (f (get_or xs i d)) b c → Inked (flat_map f (take (i + 1) xs)) a c
-inked_turn f xs i d {a = a} {c = c} inside before here =
-    let text = flat_map_more f [] (take i xs) (get_or xs i d) ∙ ap (flat_map f) (sym (take_more xs i d inside)) in
-    subst (λ t. Inked t a c) text (inked_more before here)
+-- The same of the pens themselves.
+pub writes_nil : (a : Pen) → Writes [] a a
+writes_nil a = record { inked = inked_nil (ink a); same = refl }
+
+pub writes_more : {t u : List ℕ} {a b c : Pen} → Writes t a b → Writes u b c → Writes (t ++ u) a c
+writes_more v w = record { inked = inked_more v.inked w.inked; same = w.same ∙ v.same }
+
+pub writes_as : {t u : List ℕ} {a b : Pen} → t ≡ u → Writes t a b → Writes u a b
+writes_as {a = a} {b = b} e w = subst (λ x. Writes x a b) e w
 
 -- from a to b a text was begun, and it is whole once the rest is written too
-abbrev pub Leads : List ℕ → List ℕ → Ink → Ink → Type 0
-Leads whole rest a b = (c : Ink) → Inked rest b c → Inked whole a c
+abbrev pub Leads : List ℕ → List ℕ → Pen → Pen → Type 0
+Leads whole rest a b = (c : Pen) → Writes rest b c → Writes whole a c
 
-pub leads_start : {whole rest : List ℕ} {a : Ink} → whole ≡ rest → Leads whole rest a a
-leads_start {a = a} e c w = subst (λ t. Inked t a c) (sym e) w
+pub leads_start : {whole rest : List ℕ} {a : Pen} → whole ≡ rest → Leads whole rest a a
+leads_start e c w = writes_as (sym e) w
 
-pub leads_more : {whole text rest : List ℕ} {a b c : Ink} → Leads whole (text ++ rest) a b → Inked text b c → Leads whole rest a c
-leads_more leads wrote d w = leads d (inked_more wrote w)
+pub leads_more : {whole text rest : List ℕ} {a b c : Pen} → Leads whole (text ++ rest) a b → Writes text b c → Leads whole rest a c
+leads_more leads wrote d w = leads d (writes_more wrote w)
 
-pub leads_as : {whole rest same : List ℕ} {a b : Ink} → rest ≡ same → Leads whole rest a b → Leads whole same a b
+pub leads_as : {whole rest same : List ℕ} {a b : Pen} → rest ≡ same → Leads whole rest a b → Leads whole same a b
 leads_as {whole = whole} {a = a} {b = b} e leads = subst (λ t. Leads whole t a b) e leads
 
-pub leads_end : {whole : List ℕ} {a b : Ink} → Leads whole [] a b → Inked whole a b
-leads_end {b = b} leads = leads b (inked_nil b)
+pub leads_end : {whole : List ℕ} {a b : Pen} → Leads whole [] a b → Writes whole a b
+leads_end {b = b} leads = leads b (writes_nil b)
 
 -- a text at the front of a buffer
 pub fresh_fits : {text out : List ℕ} {b : Ink} → Inked text (fresh_ink out) b → b.over ≡ false → (b.out ≡ written text out) × (b.room ≡ length out - length text)
@@ -100,7 +104,7 @@ fresh_fits {text = text} {out = out} w e =
     let next : 0 + length text ≡ length text = omega arith in
     (w.laid e (omega arith) ∙ ap (λ at. pasted text at out) front ∙ ap (λ k. text ++ drop k out) next, w.left e)
 
--- The two ends of a writer. The dry pen was over, so the text is too long:
+-- The two ends of `write_text`. The dry pen was over, so the text is too long:
 pub over_dry : {text : List ℕ} (out : List ℕ) {a b : Ink} → a ≡ dry_ink (length out) → Inked text a b → true ≡ b.over → length out < length text
 over_dry {text = text} out {b = b} dry w e =
     ltb-true _ _ (sym (measured (subst (λ p. Inked text p b) dry w) refl) ∙ sym e)
@@ -126,3 +130,12 @@ finished {text = text} out {left = left} dry w e new v told =
     let done = laid_fresh out new v room in
     let long : length out - left ≡ length text = omega (arith, done.1) in
     (done.0 ∙ grind (arith, nat_tests), ap Some long ∙ grind (arith, nat_tests))
+
+-- what `write_text` counted, or an error in place of none
+pub counted : {E : Type 0} (e : E) {o : Option ℕ} {r : Result ℕ E} (text out : List ℕ) → r ≡ ok_or o e → o ≡ count text out
+    → r ≡ cond (nat_le (length text) (length out)) (Ok (length text)) (Err e)
+counted {E = E} e text out same told = same ∙ ap (λ o. ok_or o e) told ∙ by (nat_le (length text) (length out))
+  where
+    by : (b : Bool) → ok_or (cond b (Some (length text)) None) e ≡ cond b (Ok (length text)) (Err e)
+    by true = refl
+    by false = refl

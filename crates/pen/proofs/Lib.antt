@@ -1,2 +1,1 @@
 pub mod Ink
-pub mod Digits

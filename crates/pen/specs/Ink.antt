@@ -31,6 +31,11 @@ pub record Inked (text : List ℕ) (a b : Ink) : Type 0 where
   pub laid : b.over ≡ false → a.room ≤ length a.out → b.out ≡ pasted text (length a.out - a.room) a.out
   pub long : length b.out ≡ length a.out
 
+-- A pen wrote the text, and its buffer is still the one that it was lent.
+pub record Writes (text : List ℕ) (old new : Pen) : Type 0 where
+  pub inked : Inked text (ink old) (ink new)
+  pub same : new.out.ghost_name ≡ old.out.ghost_name
+
 -- the buffer with the text at its front
 abbrev pub written : List ℕ → List ℕ → List ℕ
 written text out = text ++ drop (length text) out

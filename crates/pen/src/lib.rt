@@ -1,12 +1,14 @@
-//! Writing text at the front of a lent buffer, and measuring first whether it fits.
+//! Writing text at the front of a lent buffer, where it fits.
 //!
-//! A writer of text takes a `&mut Pen`. It is called twice: with a dry pen, which only measures,
-//! and then, if the text fits, with a pen over the buffer. So a text that does not fit leaves the
-//! buffer as it was.
+//! A type that can be written implements `Compose`. `write_text` composes it twice: with a dry pen,
+//! which only measures, and then, if the text fits, with a pen over the buffer. So a text that does
+//! not fit leaves the buffer as it was.
 #![tactic(auto)]
 
-ghost use Rattle.std.specs.Prelude.{◌≡◌, ◌≤◌, drop, decimal};
-ghost use Rattle.pen.specs.Ink.{ink, fresh_ink, dry_ink, Inked};
+ghost use Rattle.std.specs.Prelude.{◌≡◌, ℕ, List};
+ghost use Rattle.pen.specs.Ink.{ink, fresh_ink, dry_ink, Writes, put, count};
+
+use itoa::{Buffer, Integer};
 
 /// A place in a buffer to write on from, with the room that is left.
 ///
@@ -57,8 +59,7 @@ impl<'a> Pen<'a> {
 
     /// Writes `text` if it fits. If not, the pen is over, and writes nothing from then on.
     pub fn put(&mut self, text: &[u8])
-        ensures wrote { Inked text.now (ink self.old) (ink self.new) }
-        ensures same { self.new.out.ghost_name ≡ self.old.out.ghost_name }
+        ensures { Writes text.now self.old self.new }
     {
         if self.over || text.len() > self.room {
             self.over = true;
@@ -76,28 +77,35 @@ impl<'a> Pen<'a> {
     }
 
     /// Writes `n` in decimal.
-    pub fn put_decimal(&mut self, n: u32)
-        ensures wrote { Inked (decimal n) (ink self.old) (ink self.new) }
-        ensures same { self.new.out.ghost_name ≡ self.old.out.ghost_name }
+    pub fn put_decimal<I: Integer>(&mut self, n: I)
+        ensures { Writes (I.text n) self.old self.new }
     {
-        let mut digits = [b'0'; 10];
-        let at = write_digits(&mut digits, n);
-        self.put(&digits[at..]);
+        let mut digits = Buffer::new();
+        self.put(digits.format(n).as_bytes());
     }
 }
 
-/// Writes `n` in decimal at the end of `digits`, and answers where it begins.
-fn write_digits(digits: &mut [u8; 10], n: u32) -> usize
-    ensures inside { result ≤ 10 }
-    ensures wrote { drop result digits.new ≡ decimal n }
+/// A value that a pen can write as text.
+pub trait Compose {
+    ghost text: { Self → List ℕ };
+
+    /// Writes the text.
+    fn compose(&self, pen: &mut Pen)
+        ensures { Writes (text self.now) pen.old pen.new };
+}
+
+/// Writes a text at the front of `out`, and answers its length. If it does not fit, `out` stays as it was.
+pub fn write_text<T: Compose>(text: &T, out: &mut [u8]) -> Option<usize>
+    ensures after { out.new ≡ put (T.text text.now) out.old }
+    ensures answers { result ≡ count (T.text text.now) out.old }
 {
-    let mut at = 9;
-    let mut rest = n;
-    while rest >= 10 {
-        digits[at] = b'0' + (rest % 10) as u8;
-        rest /= 10;
-        at -= 1;
+    let long = out.len();
+    let mut measure = Pen::dry(long);
+    text.compose(&mut measure);
+    if measure.is_over() {
+        return None;
     }
-    digits[at] = b'0' + rest as u8;
-    at
+    let mut pen = Pen::new(out);
+    text.compose(&mut pen);
+    Some(long - pen.room())
 }

@@ -1,16 +1,23 @@
 -- The characters that draw cells, and the cells that they draw. Assumes nothing.
-use Rattle.std.proofs.Common.{◌≡◌, ℕ, zero, suc, ◌+◌, ◌≤◌, true, List, [], ◌∷◌, ◌++◌, map, length, take, drop, Some, None, Option, refl, ap, ◌∙◌, subst, arith}
+use Rattle.std.proofs.Common.{◌≡◌, ℕ, zero, suc, ◌+◌, ◌≤◌, true, List, [], ◌∷◌, ◌++◌, map, length, take, drop, Some, None, Ok, Err, Option, Result, sym, refl, ap, ◌∙◌, subst, arith}
+use Rattle.std.specs.Result.{result_ok}
 use Rattle.std.proofs.lemmas.List.{get_or-drop}
 use Rattle.std.proofs.lemmas.Bool.Decides.{nat_tests}
 use Rattle.pictures.specs.declared.cell.Cell.{Cell}
 use Rattle.pictures.specs.declared.cell.Cell.TheVariants.{Wall, Free, Atom}
-use Rattle.pictures.specs.Cells.{symbol_of, cell_of, cells_of, lettered, Lettered, DrawsOne, DrawnBack}
+use Rattle.pictures.specs.declared.cell.UnknownSymbol.{UnknownSymbol}
+use Rattle.pictures.specs.Cells.{symbol_of, cell_of, cells_of, lettered, Lettered, Draws, DrawsOne, DrawnBack}
 
 -- a character draws a lettered cell, and is the one that draws it
 pub draws_one : (c : ℕ) → DrawsOne c
 draws_one c Wall e = (refl, grind (arith, nat_tests))
 draws_one c Free e = (refl, grind (arith, nat_tests))
 draws_one c (Atom label) e = (grind (arith, nat_tests), grind (arith, nat_tests))
+
+-- what a character draws, without the error
+pub drawn : (c : ℕ) (o : Option Cell) (r : Result Cell UnknownSymbol) → Draws c r → o ≡ result_ok r → o ≡ cell_of c
+drawn c o (Ok x) d e = e ∙ sym d
+drawn c o (Err u) d e = e ∙ sym d.1
 
 -- a letter draws its atom
 atom_drawn : (c : ℕ) → lettered (Atom c) ≡ true → cell_of c ≡ Some (Atom c)
@@ -85,13 +92,13 @@ cells_of_symbols (x ∷ xs) ls =
 
 -- no cells are not some cells
 pub never : {A : Type 0} (a : A) → None ≡ Some a → ⊥
-never a e = let z : ◌≡◌ {A = ℕ} 0 1 = cc in omega arith
+never a e = cc
 
 -- where cells are drawn, the first is, and the others are
 pub parts : (o : Option Cell) (rest : Option (List Cell)) (ys : List Cell) → before o rest ≡ Some ys → (x : Cell) × (xs : List Cell) × (o ≡ Some x) × (rest ≡ Some xs) × (x ∷ xs ≡ ys)
 parts (Some x) (Some xs) ys e = (x, xs, refl, refl, cc)
-parts (Some x) None ys e = absurd (never ys e)
-parts None rest ys e = absurd (never ys e)
+parts (Some x) None ys e = cc
+parts None rest ys e = cc
 
 -- cells have these characters, are as many, and are lettered
 abbrev pub Drawn : List ℕ → List Cell → Type 0

@@ -1,6 +1,7 @@
 -- Cells, and the characters that draw them. Assumes nothing.
-use Rattle.std.specs.Prelude.{◌≡◌, ℕ, Bool, true, cond, ◌&&◌, List, [], ◌∷◌, Some, None, Option, ◌==◌, nat_le, slice_index_or}
+use Rattle.std.specs.Prelude.{◌≡◌, ℕ, Bool, true, cond, ◌&&◌, List, [], ◌∷◌, Some, None, Option, Result, MatchResult, ◌==◌, nat_le, slice_index_or}
 use Rattle.pictures.specs.declared.cell.Cell.{Cell}
+use Rattle.pictures.specs.declared.cell.UnknownSymbol.{UnknownSymbol}
 use Rattle.pictures.specs.declared.cell.Cell.TheVariants.{Wall, Free, Atom}
 
 -- the character that draws a cell
@@ -14,6 +15,10 @@ abbrev pub cell_of : ℕ → Option Cell
 cell_of c =
     cond (c == 35) (Some Wall)
     (cond (c == 46) (Some Free) (cond (nat_le 65 c && nat_le c 90) (Some (Atom c)) None))
+
+-- the result is the cell that a character draws, or an error with the character where it draws none
+abbrev pub Draws : ℕ → Result Cell UnknownSymbol → Type 0
+Draws c r = MatchResult r (λ cell. cell_of c ≡ Some cell) (λ e. (e.0 ≡ c) × (cell_of c ≡ None))
 
 -- the cells that characters draw, if each draws one
 abbrev pub cells_of : List ℕ → Option (List Cell)

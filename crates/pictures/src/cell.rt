@@ -1,8 +1,8 @@
 ghost use Rattle.std.specs.Prelude.{◌≡◌};
-ghost use Rattle.pictures.specs.Cells.{cell_of, symbol_of, DrawsOne, DrawnBack};
+ghost use Rattle.pictures.specs.Cells.{symbol_of, Draws, DrawsOne, DrawnBack};
 
 /// What is drawn on a cell.
-#[derive(Clone, Copy, PartialEq, Eq)]
+#[derive(Clone, Copy, Debug, PartialEq, Eq)]
 pub enum Cell {
     Wall,
     /// Nothing; in a molecule the cell is indifferent.
@@ -11,26 +11,38 @@ pub enum Cell {
     Atom(u8),
 }
 
-impl Cell {
-    /// The cell that a character draws.
-    pub fn from_symbol(symbol: char) -> Option<Cell>
-        ensures draws { result ≡ cell_of symbol }
+/// A character that draws no cell.
+#[derive(Clone, Copy, Debug, PartialEq, Eq)]
+pub struct UnknownSymbol(pub char);
+
+/// The cell that a character draws.
+impl TryFrom<char> for Cell {
+    type Error = UnknownSymbol;
+
+    ghost try_from_gives = { Draws };
+
+    fn try_from(symbol: char) -> Result<Cell, UnknownSymbol>
+        ensures draws { Draws symbol result }
         ensures one { DrawsOne symbol }
     {
         match symbol {
-            '#' => Some(Cell::Wall),
-            '.' => Some(Cell::Free),
-            'A'..='Z' => Some(Cell::Atom(symbol as u8)),
-            _ => None,
+            '#' => Ok(Cell::Wall),
+            '.' => Ok(Cell::Free),
+            'A'..='Z' => Ok(Cell::Atom(symbol as u8)),
+            _ => Err(UnknownSymbol(symbol)),
         }
     }
+}
 
-    /// The character that draws it.
-    pub fn symbol(self) -> u8
-        ensures drawn { result ≡ symbol_of self }
-        ensures back { DrawnBack self }
+/// The character that draws a cell.
+impl From<Cell> for u8 {
+    ghost from_gives = { λ cell symbol. symbol ≡ symbol_of cell };
+
+    fn from(cell: Cell) -> u8
+        ensures drawn { result ≡ symbol_of cell }
+        ensures back { DrawnBack cell }
     {
-        match self {
+        match cell {
             Cell::Wall => b'#',
             Cell::Free => b'.',
             Cell::Atom(label) => label,

@@ -4,5 +4,5 @@
 mod cell;
 mod picture;
 
-pub use cell::Cell;
+pub use cell::{Cell, UnknownSymbol};
 pub use picture::Picture;

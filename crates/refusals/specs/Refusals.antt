@@ -1,5 +1,5 @@
--- The number of each refusal. Assumes nothing.
-use Rattle.std.specs.Prelude.{ℕ}
+-- The number of each refusal, and how a refusal is written. Assumes nothing.
+use Rattle.std.specs.Prelude.{ℕ, List, ◌++◌, codes, decimal}
 use Rattle.refusals.specs.declared.Fault.{Fault}
 use Rattle.refusals.specs.declared.Fault.TheVariants.{NotText, LineForm, BoardSize, BadRow, BadWant, BareEdge, AtomLabels, TileNumbers, NoRoom, WayForm, NothingThere, ClosedMove, AfterFinish, NotFinished}
 use Rattle.refusals.specs.declared.Refusal.{Refusal}
@@ -23,3 +23,7 @@ number_of NotFinished = 45
 -- a refusal that names a line
 abbrev pub refusal : Fault → ℕ → Refusal
 refusal fault line = record { fault = fault; line = line }
+
+-- `(fault NUMBER LINE)`
+abbrev pub refusal_text : Refusal → List ℕ
+refusal_text r = codes "(fault " ++ (decimal (number_of r.fault) ++ (codes " " ++ (decimal r.line ++ codes ")")))

@@ -1,63 +1,61 @@
 //! Refusals: why, under which number, and the line they name.
 #![tactic(auto)]
 
-ghost use Rattle.std.specs.Prelude.{◌≡◌};
-ghost use Rattle.refusals.specs.Refusals.{number_of};
+ghost use Rattle.std.specs.Prelude.{◌≡◌, Some};
+ghost use Rattle.refusals.specs.Refusals.{number_of, refusal, refusal_text};
 
-/// Why a text, a way or a call is refused. The tens digit of its number names the layer.
+use std::error::Error;
+use std::fmt;
+
+/// Why a text, a way or a call is refused, with the number under which the refusal is known. Its tens digit names the
+/// layer.
 #[derive(Clone, Copy, PartialEq, Eq, Debug)]
 pub enum Fault {
     /// The bytes are no text: too many, none, a strange one, or the last line not ended.
-    NotText,
+    NotText = 11,
     /// A line has not the form that is due there.
-    LineForm,
+    LineForm = 12,
     /// The board is too small or too large.
-    BoardSize,
+    BoardSize = 13,
     /// A row does not spell its cells.
-    BadRow,
+    BadRow = 14,
     /// A row of the wanted molecule does not spell its cells.
-    BadWant,
+    BadWant = 15,
     /// An edge row or an edge column of the wanted molecule holds no letter.
-    BareEdge,
+    BareEdge = 16,
     /// There is no atom or there are too many, or a label is not as often wanted as it is there.
-    AtomLabels,
+    AtomLabels = 17,
     /// Not every tile number is there once.
-    TileNumbers,
+    TileNumbers = 18,
     /// The text does not fit the buffer, or the way has too many moves to be written.
-    NoRoom,
+    NoRoom = 21,
     /// A line of a way is out of form, or the way's count is wrong.
-    WayForm,
+    WayForm = 41,
     /// Nothing stands where the move is said to begin.
-    NothingThere,
+    NothingThere = 42,
     /// The move is closed.
-    ClosedMove,
+    ClosedMove = 43,
     /// A move follows the finish.
-    AfterFinish,
+    AfterFinish = 44,
     /// The way ends on a position that is not finished.
-    NotFinished,
+    NotFinished = 45,
+}
+
+/// The number under which the refusal is known.
+impl From<Fault> for u32 {
+    ghost from_gives = { λ fault number. number ≡ number_of fault };
+
+    fn from(fault: Fault) -> u32 {
+        fault as u32
+    }
 }
 
 impl Fault {
-    /// The number under which the refusal is known.
-    pub fn number(self) -> u32
-        ensures { result ≡ number_of self }
+    /// The refusal for this reason that names a line.
+    pub fn at(self, line: usize) -> Refusal
+        ensures { result ≡ refusal self line }
     {
-        match self {
-            Fault::NotText => 11,
-            Fault::LineForm => 12,
-            Fault::BoardSize => 13,
-            Fault::BadRow => 14,
-            Fault::BadWant => 15,
-            Fault::BareEdge => 16,
-            Fault::AtomLabels => 17,
-            Fault::TileNumbers => 18,
-            Fault::NoRoom => 21,
-            Fault::WayForm => 41,
-            Fault::NothingThere => 42,
-            Fault::ClosedMove => 43,
-            Fault::AfterFinish => 44,
-            Fault::NotFinished => 45,
-        }
+        Refusal { fault: self, line }
     }
 }
 
@@ -67,3 +65,16 @@ pub struct Refusal {
     pub fault: Fault,
     pub line: usize,
 }
+
+/// `(fault NUMBER LINE)`.
+impl fmt::Display for Refusal {
+    ghost output = { λ refusal. Some (refusal_text refusal) };
+
+    fn fmt<W: fmt::Write>(&self, f: &mut fmt::Formatter<W>) -> fmt::Result {
+        let number = u32::from(self.fault);
+        let line = self.line;
+        write!(f, "(fault {number} {line})")
+    }
+}
+
+impl Error for Refusal {}

@@ -10,22 +10,24 @@ const WORDS: usize = 4;
 /// A set of cells with numbers from 0 to 255, a bit for each.
 #[derive(Clone, Copy)]
 pub struct CellSet {
-    words: [u64; 4],
+    words: [u64; WORDS],
+}
+
+/// The set without cells.
+impl Default for CellSet {
+    ghost is_default = { Empty };
+
+    fn default() -> CellSet {
+        CellSet { words: [0; WORDS] }
+    }
 }
 
 impl CellSet {
-    /// The set without cells.
-    pub fn empty() -> CellSet
-        ensures { Empty result }
-    {
-        CellSet { words: [0; WORDS] }
-    }
-
     /// Puts a cell into the set.
     pub fn insert(&mut self, cell: u8)
         ensures { Inserted cell self.old self.new }
     {
-        let cell = cell as usize;
+        let cell = usize::from(cell);
         self.words[cell / WORD_BITS] |= 1 << (cell % WORD_BITS);
     }
 

@@ -1,12 +1,11 @@
 -- Positions and their tiles: packing and unpacking undo each other, and what one written cell does. Assumes nothing.
-use Rattle.std.proofs.Common.{◌≡◌, ℕ, zero, suc, ◌+◌, ◌*◌, ◌/◌, ◌%◌, ◌^◌, ◌<◌, ◌≤◌, leb, List, [], ◌∷◌, ◌++◌, length, get_or, take, set, Decides, sym, refl, ap, ◌∙◌, mul_assoc, div-lt_iff_lt-mul, mul_left_comm, arith}
-use Rattle.std.specs.List.{AllByRecursion as All}
+use Rattle.std.proofs.Common.{◌≡◌, ℕ, zero, suc, ◌+◌, ◌*◌, ◌/◌, ◌%◌, ◌^◌, ◌<◌, ◌≤◌, ◌↔◌, List, [], ◌∷◌, ◌++◌, length, get_or, take, set, sym, refl, ap, ◌∙◌, mul_assoc, div-lt_iff_lt-mul, mul_left_comm, arith}
+use Rattle.std.specs.List.{All}
 use native.Mathlib.Nat.{pow-succ', div-div-eq-div-mul}
 use lib.Bits.{bit_and}
 use Rattle.std.proofs.lemmas.Nat.{pow-add, pow_pos, and_mask, shl_whole, mul-le}
-use Rattle.std.proofs.ByRecursion.{All-set, All-get_or}
+use Rattle.std.proofs.lemmas.List.Elements.{All-nil, All-cons, All-head, All-tail, All-set, All-get_or}
 use Rattle.std.proofs.lemmas.List.{length-set, get_or-set_other, get_or-take}
-use Rattle.std.proofs.lemmas.Bool.{leb-true, le-leb}
 use Rattle.tiles.specs.Board.{packed, unpacked, cells, swapped}
 
 -- fits the four bits of a cell
@@ -18,8 +17,8 @@ length_unpacked zero p = refl
 length_unpacked (suc n) p = ap suc (length_unpacked n (p / 16))
 
 pub small_unpacked : (n p : ℕ) → All Small (unpacked n p)
-small_unpacked zero p = tt
-small_unpacked (suc n) p = (omega arith, small_unpacked n (p / 16))
+small_unpacked zero p = All-nil Small
+small_unpacked (suc n) p = All-cons Small _ _ (omega arith) (small_unpacked n (p / 16))
 
 pub get_or_unpacked : (n p i : ℕ) → i < n → get_or (unpacked n p) i 0 ≡ p / 16 ^ i % 16
 get_or_unpacked zero p i h = absurd (omega arith)
@@ -43,15 +42,17 @@ packed_unpacked (suc n) p h =
 pub unpacked_packed : (ts : List ℕ) → All Small ts → unpacked (length ts) (packed ts) ≡ ts
 unpacked_packed [] small = refl
 unpacked_packed (t ∷ ts) small =
-    let first : (t + 16 * packed ts) % 16 ≡ t = omega (arith, small.0) in
-    let rest : (t + 16 * packed ts) / 16 ≡ packed ts = omega (arith, small.0) in
+    let fits : t < 16 = All-head Small t ts small in
+    let first : (t + 16 * packed ts) % 16 ≡ t = omega arith in
+    let rest : (t + 16 * packed ts) / 16 ≡ packed ts = omega arith in
     ap (λ k. k ∷ unpacked (length ts) ((t + 16 * packed ts) / 16)) first
     ∙ ap (λ k. t ∷ unpacked (length ts) k) rest
-    ∙ ap (λ us. t ∷ us) (unpacked_packed ts small.1)
+    ∙ ap (λ us. t ∷ us) (unpacked_packed ts (All-tail Small t ts small))
 
 pub packed_lt : (ts : List ℕ) → All Small ts → packed ts < 16 ^ length ts
 packed_lt [] small = omega arith
-packed_lt (t ∷ ts) small = omega (arith, small.0, packed_lt ts small.1, pow-succ' 16 (length ts))
+packed_lt (t ∷ ts) small =
+    omega (arith, All-head Small t ts small, packed_lt ts (All-tail Small t ts small), pow-succ' 16 (length ts))
 
 -- one cell up is sixteen times as much
 up : (v i : ℕ) → v * 16 ^ suc i ≡ 16 * (v * 16 ^ i)
@@ -129,12 +130,12 @@ small_swapped ts b t ht small =
     All-set Small _ t 0 (omega arith) (All-set Small ts b _ (All-get_or Small ts t 0 ht small) small)
 
 -- what is left of a position above its first n cells is one more cell, or does not fit one
-pub fits_cell : (p n : ℕ) → Decides (leb (p / 2 ^ (4 * n)) 15) (p < 16 ^ suc n)
+pub fits_cell : (p n : ℕ) → (p / 2 ^ (4 * n) ≤ 15) ↔ (p < 16 ^ suc n)
 fits_cell p n =
     let power : 16 ^ suc n ≡ 16 * 2 ^ (4 * n) = pow-succ' 16 n ∙ ap (λ k. 16 * k) (pow_bits n) in
     let split = div-lt_iff_lt-mul {k = 2 ^ (4 * n)} {x = p} {y = 16} (pow_pos (4 * n)) in (
-      λ e. let below = split.0 (omega (arith, leb-true _ _ e)) in omega arith,
-      λ h. let below = split.1 (omega arith) in le-leb _ _ (omega arith),
+      λ h. let below = split.0 (omega arith) in omega arith,
+      λ h. let below = split.1 (omega arith) in omega arith,
     )
 
 -- a level's board has four to sixteen cells

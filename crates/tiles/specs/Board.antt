@@ -1,5 +1,5 @@
 -- The board of a tile level: its tiles in reading order, and what a move does to them. Assumes nothing.
-use Rattle.std.specs.Prelude.{◌≡◌, ℕ, zero, suc, ◌+◌, ◌*◌, ◌/◌, ◌%◌, ◌^◌, ◌<◌, Bool, true, cond, ◌&&◌, List, [], ◌∷◌, take, Some, None, count_by, Option, ◌==◌, nat_eq, slice_index, slice_set}
+use Rattle.std.specs.Prelude.{◌≡◌, ℕ, zero, suc, ◌+◌, ◌*◌, ◌/◌, ◌%◌, ◌^◌, ◌<◌, Bool, true, cond, ◌&&◌, List, [], ◌∷◌, take, Some, None, count_by, position, Option, ◌==◌, nat_eq, slice_index, slice_set}
 use Rattle.grid.specs.declared.Direction.{Direction}
 use Rattle.grid.specs.Grid.{neighbour}
 
@@ -17,10 +17,9 @@ unpacked (suc n) p = p % 16 ∷ unpacked n (p / 16)
 unfoldable pub cells : ℕ → List ℕ
 cells p = unpacked 16 p
 
--- where the blank is, 0, among cells of which the first has number i
-abbrev pub blank_from : ℕ → List ℕ → Option ℕ
-blank_from i [] = None
-blank_from i (t ∷ ts) = cond (t == 0) (Some i) (blank_from (i + 1) ts)
+-- where the blank is, 0
+abbrev pub blank_of : List ℕ → Option ℕ
+blank_of = position (λ t. t == 0)
 
 -- the blank goes from the cell b to the cell t, and the tile there to b; every other cell stays
 abbrev pub swapped : List ℕ → ℕ → ℕ → List ℕ
@@ -29,7 +28,7 @@ swapped ts b t = slice_set (slice_set ts b (slice_index ts t)) t 0
 -- the tiles after the blank of a w × h board went one cell: none where there is no blank or no such cell
 abbrev pub slid : ℕ → ℕ → List ℕ → Direction → Option (List ℕ)
 slid w h ts d =
-    elim (blank_from 0 (take (w * h) ts)) [
+    elim (blank_of (take (w * h) ts)) [
       | Some b ↦ elim (neighbour w h b d) [ Some t ↦ Some (swapped ts b t) | None ↦ None ]
       | None ↦ None
     ]

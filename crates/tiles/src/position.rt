@@ -1,13 +1,53 @@
 //! Positions: one number with four bits a cell, the first cell lowest.
-ghost use Rattle.std.specs.Prelude.{◌≡◌, ◌<◌, ◌≤◌, Decides, count_by, ◌≢◌, nat_eq, slice_index};
+ghost use Rattle.std.specs.Prelude.{◌≡◌, ◌<◌, ◌≤◌, ◌↔◌, IsTrue, count_by, ◌≢◌, nat_eq, slice_index};
 ghost use Rattle.tiles.specs.Board.{packed, unpacked, cells, swapped, Numbered};
 
-const BITS_PER_CELL: usize = 4;
+/// How many bits of a position a cell takes.
+pub const BITS_PER_CELL: usize = 4;
 // The bits of the lowest cell.
 const CELL_MASK: u64 = 0xF;
 
-/// The number on a cell.
-pub(crate) fn tile_at(position: u64, cell: usize) -> u8
+/// The used cells of a position in reading order: what lies on each.
+#[derive(Debug, Drop)]
+pub(crate) struct UsedCells {
+    position: u64,
+    left: usize,
+}
+
+impl Iterator for UsedCells {
+    ghost use Rattle.tiles.specs.UsedCells.{cells_left};
+    ghost use Rattle.std.specs.Iterator.{YieldsFirst, at_most};
+
+    type Item = u8;
+
+    ghost next_gives = { YieldsFirst cells_left };
+
+    ghost remaining = { λ cells. at_most cells.left };
+
+    fn next(&mut self) -> Option<u8> {
+        self.left = self.left.checked_sub(1)?;
+        let tile = (self.position & CELL_MASK) as u8;
+        self.position >>= BITS_PER_CELL;
+        Some(tile)
+    }
+}
+
+impl UsedCells {
+    ghost use Rattle.tiles.specs.UsedCells.{cells_left};
+
+    /// The first `used` cells.
+    pub(crate) fn new(position: u64, used: usize) -> UsedCells
+        ensures { cells_left result ≡ unpacked used position }
+    {
+        UsedCells {
+            position,
+            left: used,
+        }
+    }
+}
+
+// What lies on a cell.
+fn tile_at(position: u64, cell: usize) -> u8
     requires { cell < 16 }
     ensures { result ≡ slice_index (cells position) cell }
 {
@@ -22,34 +62,25 @@ pub(crate) fn with_swapped(position: u64, blank: usize, cell: usize) -> u64
     requires empty { slice_index (cells position) blank ≡ 0 }
     ensures { result ≡ packed (swapped (cells position) blank cell) }
 {
-    let tile = tile_at(position, cell) as u64;
+    let tile = u64::from(tile_at(position, cell));
     position - (tile << (BITS_PER_CELL * cell)) + (tile << (BITS_PER_CELL * blank))
 }
 
 // How many of the first `used` cells hold this tile.
 fn count(position: u64, used: usize, tile: usize) -> usize
-    requires { used ≤ 16 }
     ensures { result ≡ count_by (nat_eq tile) (unpacked used position) }
 {
-    let mut found = 0;
-    for cell in 0..used {
-        if tile == tile_at(position, cell) as usize {
-            found += 1;
-        }
-    }
-    found
+    UsedCells::new(position, used)
+        .filter(|other| tile == usize::from(*other))
+        .count()
 }
 
 /// Whether each number below `used` is on exactly one of the first `used` cells, and the other cells are 0.
 pub(crate) fn is_numbered(position: u64, used: usize) -> bool
     requires { (0 < used) × (used ≤ 16) }
-    ensures { Decides result (Numbered used position) }
+    ensures { IsTrue result ↔ Numbered used position }
 {
-    for tile in 0..used {
-        if count(position, used, tile) != 1 {
-            return false;
-        }
-    }
     // With the last used cell at the bottom, what is left fits one cell if no cell past it is used.
     position >> (BITS_PER_CELL * (used - 1)) <= CELL_MASK
+        && (0..used).all(|tile| count(position, used, tile) == 1)
 }

@@ -15,8 +15,7 @@ use Rattle.forms.proofs.Laws.{forms_hold}
 use Rattle.tiles_text.specs.Writing.{spaced, row_line}
 use Rattle.tiles.specs.Level.{side}
 use Rattle.tiles_text.specs.Reading.{Form, size, row, close, other, row_or, size_or, form_of, Expect, head, rows, last, nothing, numbers_in, after_row, with_row, next, taken}
-use Rattle.tiles_text.specs.Reader.{Sized}
-use Rattle.tiles_text.proofs.Rows.{numbers_only, numbers_all}
+use Rattle.tiles_text.proofs.Spelling.{numbers_only, numbers_all}
 use Rattle.text.proofs.Texts.{Printed, printed_by, Short, leading_all}
 
 -- the keywords
@@ -114,6 +113,11 @@ form_row xs args =
 
 form_close : form_of closing ≡ close
 form_close = refl
+
+-- a board of a size that a level may have
+pub record Sized (w h : ℕ) : Type 0 where
+  pub wide : (2 ≤ w) × (w ≤ 4)
+  pub high : (2 ≤ h) × (h ≤ 4)
 
 -- each line of a level is taken where it is due
 module _ (w h : ℕ) (sized : Sized w h) where

@@ -1,15 +1,11 @@
 -- A level's text written part by part. Assumes nothing.
-use Rattle.std.proofs.Common.{◌≡◌, ℕ, zero, suc, ◌+◌, ◌-◌, ◌*◌, ◌/◌, ◌%◌, ◌<◌, ◌≤◌, Bool, true, false, cond, leb, List, [], ◌∷◌, ◌++◌, length, drop, Some, None, Ok, Err, codes, decimal, Option, Result, sym, refl, ap, ◌∙◌, append_assoc, mul-add, add-one, arith}
-use Rattle.pen.specs.Ink.{count}
-use Rattle.refusals.specs.declared.Fault.TheVariants.{NoRoom}
-use Rattle.refusals.specs.declared.Refusal.{Refusal}
-use Rattle.refusals.specs.Refusals.{refusal}
+use Rattle.std.proofs.Common.{◌≡◌, ℕ, zero, suc, ◌+◌, ◌-◌, ◌*◌, ◌/◌, ◌%◌, ◌<◌, ◌≤◌, List, [], ◌∷◌, ◌++◌, drop, codes, decimal, sym, ap, ◌∙◌, append_assoc, mul-add, add-one, arith}
 use Rattle.text.specs.Lines.{join_lines}
 use Rattle.forms.specs.Forms.{closing}
 use Rattle.tiles.specs.Board.{unpacked}
-use Rattle.tiles.specs.Level.{Tiles, tiles_of}
+use Rattle.tiles.specs.Level.{tiles_of}
 use Rattle.tiles.proofs.Board.{take_unpacked}
-use Rattle.tiles_text.specs.Writing.{spaced, row_line, row_lines, level_text, writes, past}
+use Rattle.tiles_text.specs.Writing.{spaced, row_line, row_lines, level_text, past}
 
 -- nothing is left of n after n or more
 past_all : (n i : ℕ) → n ≤ i → n - i ≡ 0
@@ -63,15 +59,3 @@ head_text w h p = ap (λ t. codes "(tiles " ++ t) (append_assoc (decimal w) (32 
 -- the row's brackets
 pub row_text : (ts : List ℕ) → row_line ts ++ (10 ∷ []) ≡ codes "(row" ++ (spaced ts ++ codes ")\n")
 row_text ts = ap (λ t. codes "(row" ++ t) (append_assoc (spaced ts) closing (10 ∷ []))
-
--- what was counted, as an answer
-abbrev pub answered : Option ℕ → Result ℕ Refusal
-answered (Some n) = Ok n
-answered None = Err (refusal NoRoom 0)
-
-pub answered_count : (l : Tiles) (out : List ℕ) → answered (count (level_text l) out) ≡ writes l out
-answered_count l out = by (leb (length (level_text l)) (length out))
-  where
-    by : (b : Bool) → answered (cond b (Some (length (level_text l))) None) ≡ cond b (Ok (length (level_text l))) (Err (refusal NoRoom 0))
-    by true = refl
-    by false = refl

@@ -1,27 +1,29 @@
 -- The tiles that were read make a level exactly where each number comes once. Assumes nothing.
-use Rattle.std.proofs.Common.{◌≡◌, ℕ, zero, suc, ◌+◌, ◌-◌, ◌*◌, ◌^◌, ◌<◌, ◌≤◌, Bool, true, false, cond, eqb, ltb, List, [], ◌∷◌, length, Ok, Err, Decides, count_by, sym, refl, ap, ◌∙◌, subst, ⊎_elim, arith}
+use Rattle.std.proofs.Common.{◌≡◌, ℕ, zero, suc, ◌+◌, ◌-◌, ◌*◌, ◌^◌, ◌<◌, ◌≤◌, Bool, true, false, cond, eqb, ltb, List, [], ◌∷◌, length, Some, None, Ok, Err, Option, Decides, MatchOption, count_by, sym, refl, ap, ◌∙◌, subst, ⊎_elim, arith}
 use Rattle.std.specs.List.{AllByRecursion as All}
 use Rattle.std.proofs.lemmas.List.Sums.{sum_by-cons, count_by-le-length}
 use Rattle.std.proofs.lemmas.Bool.{cond-true, cond-false, cases_Bool, ltb-true}
 use Rattle.std.proofs.lemmas.Bool.Decides.{Decides-below_and, Decides-eqb, nat_tests}
+use Rattle.std.specs.Option.{ok_or}
 use Rattle.refusals.specs.declared.Fault.TheVariants.{TileNumbers}
 use Rattle.refusals.specs.Refusals.{refusal}
 use Rattle.tiles.specs.Board.{unpacked, Numbered}
-use Rattle.tiles.specs.Level.{Tiles, tiles_of, Valid}
+use Rattle.tiles.specs.declared.level.TileLevel.{TileLevel}
+use Rattle.tiles.specs.Level.{Tiles, tiles_of, tiles, Valid}
 use Rattle.tiles.proofs.Board.{length_unpacked, packed_unpacked}
-use Rattle.tiles_text.specs.declared.reader.Expected.TheVariants.{End}
-use Rattle.tiles_text.specs.declared.reader.Reader.{Reader}
-use Rattle.tiles_text.specs.Reading.{each_once, finish, nothing}
-use Rattle.tiles_text.specs.Reader.{Sized, Begun, expects, view}
+use Rattle.tiles_text.specs.declared.reader.Reader.TheVariants.{End}
+use Rattle.tiles_text.specs.declared.rows.Board.{Board}
+use Rattle.tiles_text.specs.Reading.{each_once, finish, told}
+use Rattle.tiles_text.specs.Reader.{all_tiles, view}
 
 pub once_decides : (ts : List ℕ) (n : ℕ) → Decides (each_once n ts) ((k : ℕ) → k < n → count_by (eqb k) ts ≡ 1)
 once_decides ts n =
     Decides-below_and (λ k. eqb (count_by (eqb k) ts) 1) (λ k. count_by (eqb k) ts ≡ 1) (λ m. each_once m ts) (λ k. Decides-eqb _ 1) refl (λ _. refl) n
 
-pub valid_decides : (w h p : ℕ) → Sized w h → p < 16 ^ (w * h) → Decides (each_once (w * h) (unpacked (w * h) p)) (Valid (tiles_of w h p))
-valid_decides w h p sized below =
+pub valid_decides : (w h p : ℕ) → (2 ≤ w) × (w ≤ 4) → (2 ≤ h) × (h ≤ 4) → p < 16 ^ (w * h) → Decides (each_once (w * h) (unpacked (w * h) p)) (Valid (tiles_of w h p))
+valid_decides w h p wide high below =
     let once = once_decides (unpacked (w * h) p) (w * h) in (
-      (λ e. record { wide = sized.wide; high = sized.high; numbered = (once.0 e, below) }),
+      (λ e. record { wide = wide; high = high; numbered = (once.0 e, below) }),
       λ v. once.1 v.numbered.0,
     )
 
@@ -65,34 +67,28 @@ pub all_below : (n p : ℕ) → Numbered n p → All (λ t. t < n) (unpacked n p
 all_below n p numbered =
     all_counted n (unpacked n p) (count_below (unpacked n p) n numbered.0 ∙ sym (length_unpacked n p))
 
--- a reader that has read all lines, and the line n that would come next
-module _ (r : Reader) (n : ℕ) (begun : Begun 0 r) (is : r.expected ≡ End) where
+-- a board that was read, and the line n that would come next
+module _ (b : Board) (n : ℕ) where
   abbrev w : ℕ
-  w = r.grid.width
+  w = b.grid.width
 
   abbrev h : ℕ
-  h = r.grid.height
+  h = b.grid.height
 
-  abbrev ts : List ℕ
-  ts = unpacked r.count r.cells
+  decides : Decides (each_once (w * h) (all_tiles b)) (Valid (tiles_of w h b.cells))
+  decides = valid_decides w h b.cells b.wide b.high b.below
 
-  at_end : finish n (view r) ≡ finish n (nothing w h ts)
-  at_end = ap (λ e. finish n (expects e w h ts)) is
-
-  decides : Decides (each_once (w * h) ts) (Valid (tiles_of w h r.cells))
-  decides =
-      let all : w * h ≡ r.count = omega (arith, begun.counted) in
-      let below : r.cells < 16 ^ (w * h) = omega (arith, begun.below, ap (λ k. 16 ^ k) all) in
-      subst (λ k. Decides (each_once (w * h) (unpacked k r.cells)) (Valid (tiles_of w h r.cells))) all
-      (valid_decides w h r.cells begun.sized below)
-
-  pub finish_valid : (t : Tiles) → t ≡ tiles_of w h r.cells → Valid t → Ok t ≡ finish n (view r)
+  finish_valid : (t : Tiles) → t ≡ tiles_of w h b.cells → Valid t → Ok t ≡ finish n (view (End b))
   finish_valid t same valid =
       ap Ok same
-      ∙ ap (λ p. Ok (tiles_of w h p)) (sym (packed_unpacked r.count r.cells begun.below))
-      ∙ sym (cond-true (each_once (w * h) ts) _ _ (decides.1 (subst Valid same valid)))
-      ∙ sym at_end
+      ∙ ap (λ p. Ok (tiles_of w h p)) (sym (packed_unpacked (w * h) b.cells b.below))
+      ∙ sym (cond-true (each_once (w * h) (all_tiles b)) _ _ (decides.1 (subst Valid same valid)))
 
-  pub finish_not : (Valid (tiles_of w h r.cells) → ⊥) → Err (refusal TileNumbers (n - 1)) ≡ finish n (view r)
+  finish_not : (Valid (tiles_of w h b.cells) → ⊥) → Err (refusal TileNumbers (n - 1)) ≡ finish n (view (End b))
   finish_not bad =
-      sym (cond-false (each_once (w * h) ts) _ _ (⊎_elim (λ e. absurd (bad (decides.0 e))) (λ e. e) (cases_Bool _))) ∙ sym at_end
+      sym (cond-false (each_once (w * h) (all_tiles b)) _ _ (⊎_elim (λ e. absurd (bad (decides.0 e))) (λ e. e) (cases_Bool _)))
+
+  -- what `TileLevel::new` made of it, or that it made none
+  pub finish_judged : (o : Option TileLevel) → MatchOption o (Valid (tiles_of w h b.cells) → ⊥) (λ l. (tiles l ≡ tiles_of w h b.cells) × Valid (tiles l)) → told (ok_or o (refusal TileNumbers (n - 1))) ≡ finish n (view (End b))
+  finish_judged (Some l) made = finish_valid (tiles l) made.0 made.1
+  finish_judged None bad = finish_not bad

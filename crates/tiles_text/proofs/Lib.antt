@@ -1,8 +1,7 @@
 pub mod Packing
-pub mod Rows
+pub mod Spelling
 pub mod Judging
 pub mod Taking
-pub mod Looping
 pub mod Inking
 pub mod Forms
 pub mod RoundTrip

@@ -2,52 +2,37 @@
 use Rattle.std.proofs.Common.{◌≡◌, ℕ, zero, suc, ◌+◌, ◌-◌, ◌*◌, ◌^◌, ◌<◌, ◌≤◌, Bool, true, false, cond, eqb, List, [], ◌∷◌, ◌++◌, length, take, drop, Ok, Err, Result, sym, refl, ap, ◌∙◌, subst, append_assoc, append-nil, mul-suc, arith}
 use Rattle.std.specs.List.{AllByRecursion as All}
 use Rattle.std.proofs.ByRecursion.{All-append, All-take, All-drop, All-weaker}
+use Rattle.std.proofs.lemmas.List.Elements.{All-from_recursion}
 use Rattle.std.proofs.lemmas.List.{length-append, length-take, length-take-le, length-drop, take-append-drop, take_at, take_all, drop_at}
 use Rattle.std.proofs.lemmas.Bool.{cond-true, cond-false, ne_eqb}
 use Rattle.refusals.specs.declared.Refusal.{Refusal}
-use Rattle.text.specs.Lines.{is_text, split, join_lines, OneLine, read_lines}
+use Rattle.refusals.specs.declared.Fault.TheVariants.{NotText}
+use Rattle.refusals.specs.Refusals.{refusal}
+use Rattle.text.specs.Lines.{join_lines}
 use Rattle.forms.specs.Forms.{closing}
-use Rattle.text.proofs.Lines.{goes, split_join}
+use Rattle.text.proofs.Reading as reading
 use Rattle.tiles.specs.Board.{packed, unpacked}
 use Rattle.tiles.specs.declared.level.TileLevel.{TileLevel}
 use Rattle.tiles.specs.Level.{Tiles, tiles_of, tiles, Valid}
 use Rattle.tiles.proofs.Board.{Small, few_cells, length_unpacked, packed_lt, packed_unpacked, unpacked_packed}
-use Rattle.tiles_text.specs.Reading.{Expect, head, rows, last, nothing, taken, each_once, level, finished, read_level, after_row, ReadsExactly}
-use Rattle.tiles_text.specs.Reader.{Sized}
+use Rattle.tiles_text.specs.Reading.{Expect, head, rows, last, nothing, taken, each_once, level, finish, read_level, after_row, ReadsExactly}
 use Rattle.tiles_text.specs.Writing.{row_line, row_lines, level_text}
 use Rattle.text.proofs.Cases.{clash}
-use Rattle.tiles_text.proofs.Forms.{head_line, took_head, TookRow, took_row, took_close, takes_head, takes_row, takes_close, short_head, short_row, short_close}
+use Rattle.tiles_text.proofs.Forms.{Sized, head_line, took_head, TookRow, took_row, took_close, takes_head, takes_row, takes_close, short_head, short_row, short_close}
 use Rattle.tiles_text.proofs.Judging.{valid_decides, all_below}
-use Rattle.text.proofs.Texts.{Short, one_line, is_text_lem, text_cut}
+use Rattle.text.proofs.Texts.{Short}
 
 -- what all these lines make of a reader
 abbrev ends : Expect → ℕ → List (List ℕ) → Result Tiles Refusal
-ends e n ls = finished (read_lines taken e n (ls ++ ([] ∷ [])))
+ends e n ls = reading.ends taken finish e n ls
 
-abbrev after : ℕ → List (List ℕ) → Result Expect Refusal → Result Tiles Refusal
-after n ls (Ok f) = ends f (n + 1) ls
-after n ls (Err r) = Err r
+ends_by : (e f : Expect) (n : ℕ) (l : List ℕ) (ls : List (List ℕ)) → taken e n l ≡ Ok f → ends e n (l ∷ ls) ≡ ends f (n + 1) ls
+ends_by = reading.ends_by taken finish
 
-finished_after : (n : ℕ) (ls : List (List ℕ)) (o : Result Expect Refusal) → finished (goes taken n (ls ++ ([] ∷ [])) o) ≡ after n ls o
-finished_after n ls (Ok f) = refl
-finished_after n ls (Err r) = refl
+took : (e : Expect) (n : ℕ) (l : List ℕ) (ls : List (List ℕ)) (t : Tiles) → ends e n (l ∷ ls) ≡ Ok t → reading.Took taken finish e n l ls t
+took = reading.took taken finish
 
-ends_more : (e : Expect) (n : ℕ) (l : List ℕ) (ls : List (List ℕ)) → ends e n (l ∷ ls) ≡ after n ls (taken e n l)
-ends_more e n l [] = finished_after n [] (taken e n l)
-ends_more e n l (m ∷ ls) = finished_after n (m ∷ ls) (taken e n l)
-
--- Only what is written out is read. The first line was taken, and the others after it:
-record Took (e : Expect) (n : ℕ) (l : List ℕ) (ls : List (List ℕ)) (t : Tiles) : Type 0 where
-  state : Expect
-  first : taken e n l ≡ Ok state
-  rest : ends state (n + 1) ls ≡ Ok t
-
-took : (e : Expect) (n : ℕ) (l : List ℕ) (ls : List (List ℕ)) (t : Tiles) → ends e n (l ∷ ls) ≡ Ok t → Took e n l ls t
-took e n l ls t is = by (taken e n l) refl (sym (ends_more e n l ls) ∙ is)
-  where
-    by : (o : Result Expect Refusal) → taken e n l ≡ o → after n ls o ≡ Ok t → Took e n l ls t
-    by (Ok f) p q = record { state = f; first = p; rest = q }
-    by (Err r) p q = absurd (clash _ _ q)
+-- Only what is written out is read.
 
 -- the level that the tiles make
 record Makes (w h : ℕ) (ts : List ℕ) (t : Tiles) : Type 0 where
@@ -168,34 +153,23 @@ only_head n (l ∷ ls) t is =
 written : (w h : ℕ) (us : List ℕ) → Tiled w h us → Valid (level w h us) × (join_lines (level_lines w h us) ≡ level_text (level w h us))
 written w h us tiled =
     let few = few_cells w h tiled.sized.wide.1 tiled.sized.high.1 in
-    let small : All Small us = All-weaker (λ k. k < w * h) Small (λ k below. omega arith) us tiled.below in
+    let small = All-from_recursion Small us (All-weaker (λ k. k < w * h) Small (λ k below. omega arith) us tiled.below) in
     let back : unpacked (w * h) (packed us) ≡ us = ap (λ k. unpacked k (packed us)) (sym tiled.long) ∙ unpacked_packed us small in
     let fits : packed us < 16 ^ (w * h) = omega (arith, packed_lt us small, ap (λ k. 16 ^ k) tiled.long) in (
-      (valid_decides w h (packed us) tiled.sized fits).0 (ap (each_once (w * h)) back ∙ tiled.once),
+      (valid_decides w h (packed us) tiled.sized.wide tiled.sized.high fits).0 (ap (each_once (w * h)) back ∙ tiled.once),
       ap (λ x. join_lines (level_lines w h x)) (sym back),
     )
 
--- what is read is a text
-text_read : (t : List ℕ) (l : Tiles) → read_level t ≡ Ok l → (is_text t ≡ true) × (finished (read_lines taken head 1 (split t)) ≡ Ok l)
-text_read t l is = by _ (is_text t) is
-  where
-    by : (r : Refusal) (b : Bool) → cond b (finished (read_lines taken head 1 (split t))) (Err r) ≡ Ok l → (b ≡ true) × (finished (read_lines taken head 1 (split t)) ≡ Ok l)
-    by r true q = (refl, q)
-    by r false q = absurd (clash _ _ q)
-
 read_only : (t : List ℕ) (l : Tiles) → read_level t ≡ Ok l → Valid l × (t ≡ level_text l)
 read_only t l is =
-    let text = text_read t l is in
-    let cut = text_cut t text.0 in
-    let read = only_head 1 cut.0 l (ap (λ x. finished (read_lines taken head 1 x)) (sym cut.1.parts) ∙ text.1) in
+    let lined = reading.lined taken finish head (refusal NotText 0) t l is in
+    let read = only_head 1 lined.lines l lined.read in
     let done = written read.w read.h read.us read.tiled in (
       subst Valid (sym read.is) done.0,
-      cut.1.whole ∙ ap join_lines read.lines ∙ done.1 ∙ ap level_text (sym read.is),
+      lined.whole ∙ ap join_lines read.lines ∙ done.1 ∙ ap level_text (sym read.is),
     )
 
--- What is written out is read. Each line is taken:
-ends_by : (e f : Expect) (n : ℕ) (l : List ℕ) (ls : List (List ℕ)) → taken e n l ≡ Ok f → ends e n (l ∷ ls) ≡ ends f (n + 1) ls
-ends_by e f n l ls is = ends_more e n l ls ∙ ap (after n ls) is
+-- What is written out is read.
 
 module _ (w h : ℕ) (sized : Sized w h) where
   few : w * h ≤ 16
@@ -256,12 +230,8 @@ module _ (w h : ℕ) (sized : Sized w h) where
 
   lines_read : (us : List ℕ) → Tiled w h us → read_level (join_lines (level_lines w h us)) ≡ Ok (level w h us)
   lines_read us tiled =
-      let lines = level_lines w h us in
-      let short = short_lines us tiled in
-      let few-lines : length (head_line w h ∷ row_lines h w us) ≤ 100 = omega (arith, length_rows h us, sized.high) in
-      cond-true (is_text (join_lines lines)) _ _ (is_text_lem (head_line w h ∷ row_lines h w us) closing short few-lines)
-      ∙ ap (λ x. finished (read_lines taken head 1 x)) (split_join lines (All-weaker Short OneLine one_line lines short))
-      ∙ all_head us tiled
+      let few_lines : length (head_line w h ∷ row_lines h w us) ≤ 100 = omega (arith, length_rows h us, sized.high) in
+      reading.lines_read taken finish head (refusal NotText 0) (head_line w h ∷ row_lines h w us) closing _ (short_lines us tiled) few_lines (all_head us tiled)
 
 pub read_all : (l : Tiles) → Valid l → read_level (level_text l) ≡ Ok l
 read_all l valid =
@@ -274,7 +244,7 @@ read_all l valid =
       sized = sized;
       long = length_unpacked (w * h) l.start;
       below = all_below (w * h) l.start valid.numbered;
-      once = (valid_decides w h l.start sized fits).1 valid;
+      once = (valid_decides w h l.start valid.wide valid.high fits).1 valid;
     } in
     lines_read w h sized us tiled ∙ ap (λ p. Ok (tiles_of w h p)) (packed_unpacked (w * h) l.start fits)
 

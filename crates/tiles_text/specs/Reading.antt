@@ -3,7 +3,7 @@ use Rattle.std.specs.Prelude.{◌≡◌, ℕ, zero, suc, ◌-◌, ◌*◌, Bool,
 use Rattle.refusals.specs.declared.Fault.TheVariants.{NotText, LineForm, BoardSize, BadRow, TileNumbers}
 use Rattle.refusals.specs.declared.Refusal.{Refusal}
 use Rattle.refusals.specs.Refusals.{refusal}
-use Rattle.text.specs.Lines.{is_text, split, Reading, read_lines}
+use Rattle.text.specs.Lines.{read_text}
 use Rattle.forms.specs.Forms.{◌then◌, number_in, size_of, arguments_of, is_closing}
 use Rattle.tiles.specs.Board.{packed}
 use Rattle.tiles.specs.declared.level.TileLevel.{TileLevel}
@@ -49,6 +49,14 @@ numbers_in limit (suc k) l =
 abbrev pub after_row : ℕ → ℕ → ℕ → List ℕ → Expect
 after_row w h left ts = cond (left == 1) (last w h ts) (rows w h (left - 1) ts)
 
+-- after a head of this size
+abbrev pub begun : ℕ → ℕ → Option Expect
+begun w h = cond (side w && side h) (Some (rows w h h [])) None
+
+-- after the row that these bytes spell
+abbrev pub grown : ℕ → ℕ → ℕ → List ℕ → List ℕ → Option Expect
+grown w h left ts x = numbers_in (w * h) w x then (λ r. Some (after_row w h left (ts ++ r)))
+
 abbrev pub with_row : ℕ → ℕ → ℕ → ℕ → List ℕ → Option (List ℕ) → Result Expect Refusal
 with_row n w h left ts (Some r) = Ok (after_row w h left (ts ++ r))
 with_row n w h left ts None = Err (refusal BadRow n)
@@ -87,13 +95,9 @@ finish n (rows w h left ts) = Err (refusal LineForm n)
 finish n (last w h ts) = Err (refusal LineForm n)
 finish n (nothing w h ts) = cond (each_once (w * h) ts) (Ok (level w h ts)) (Err (refusal TileNumbers (n - 1)))
 
-abbrev pub finished : Result (Reading Expect) Refusal → Result Tiles Refusal
-finished (Ok r) = finish r.line r.state
-finished (Err e) = Err e
-
 -- the level that a text spells, or why it spells none
 abbrev pub read_level : List ℕ → Result Tiles Refusal
-read_level text = cond (is_text text) (finished (read_lines taken head 1 (split text))) (Err (refusal NotText 0))
+read_level text = read_text taken finish head (refusal NotText 0) text
 
 abbrev pub told : Result TileLevel Refusal → Result Tiles Refusal
 told (Ok l) = Ok (tiles l)

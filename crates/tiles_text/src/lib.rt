@@ -2,6 +2,7 @@
 #![tactic(auto)]
 
 mod reader;
+mod rows;
 mod writer;
 
 pub use reader::read_level;

@@ -1,29 +1,15 @@
-ghost use Rattle.std.specs.Prelude.{◌≡◌, ◌*◌, ◌<◌};
+ghost use Rattle.std.specs.Prelude.{◌≡◌, ℕ, ◌*◌, ◌<◌};
 ghost use Rattle.text.specs.Lines.{bytes};
+ghost use Rattle.text.specs.Reading.{seen};
 ghost use Rattle.tiles.specs.Level.{packed_to};
-ghost use Rattle.tiles_text.specs.Reading.{form_of, numbers_in, taken, finish, read_level, told, ReadsExactly};
-ghost use Rattle.tiles_text.specs.Reader.{said, view, Sized, Sound, Answers};
+ghost use Rattle.tiles_text.specs.Reading.{form_of, numbers_in, begun, grown, next, taken, finish, read_level, told, ReadsExactly};
+ghost use Rattle.tiles_text.specs.Reader.{said, tiles_so_far, view, told_rows, told_option, told_at};
 
+use crate::rows::{Board, Rows};
 use grid::Grid;
 use refusals::{Fault, Refusal};
-use text::{Line, is_text, next_line};
-use tiles::{TileLevel, is_side};
-
-/// The bits of a position that a cell takes.
-const CELL_BITS: usize = 4;
-
-/// What the reader expects next.
-#[derive(Clone, Copy)]
-enum Expected {
-    /// The line with the board's size.
-    Head,
-    /// A row, the first of this many.
-    Rows(u8),
-    /// The closing bracket.
-    Close,
-    /// No line.
-    End,
-}
+use text::{Line, LineReader, ReadText, is_text, read_lines};
+use tiles::{BITS_PER_CELL, TileLevel, is_side};
 
 /// The form of a line.
 #[derive(Clone, Copy)]
@@ -37,15 +23,17 @@ enum Form<'a> {
     Other,
 }
 
-/// A level that is being read.
+/// A level that is being read: which line is due, and what the lines before it said.
 #[derive(Clone, Copy)]
-struct Reader {
-    expected: Expected,
-    grid: Grid,
-    /// The tiles so far, four bits each, the first lowest.
-    cells: u64,
-    /// How many they are.
-    count: usize,
+enum Reader {
+    /// The line with the board's size.
+    Head,
+    /// A row.
+    Rows(Rows),
+    /// The closing bracket.
+    Close(Board),
+    /// No line.
+    End(Board),
 }
 
 // The form that a line has: each is told from the others by its first word.
@@ -63,90 +51,98 @@ fn form_of<'a>(line: Line<'a>) -> Form<'a>
     }
 }
 
-// The tiles of a row, packed. There are none if one is missing or too large, or if something follows the last.
-fn read_row(row: Line, grid: Grid) -> Option<u64>
-    requires { Sized grid.width grid.height }
-    ensures { result ≡ packed_to (numbers_in (grid.width * grid.height) grid.width (bytes row.entry)) }
-{
-    let mut tiles = 0;
-    let mut rest = row;
-    for column in 0..grid.width as usize {
-        let (tile, after) = forms::number(rest)?;
-        if tile as usize >= grid.cells() {
+impl Rows {
+    // No row yet of a board of this size, if a board may have it.
+    fn new(width: u32, height: u32) -> Option<Rows>
+        ensures { told_rows result ≡ begun width height }
+    {
+        if !is_side(width) || !is_side(height) {
             return None;
         }
-        tiles += (tile as u64) << (CELL_BITS * column);
-        rest = after;
+        Some(Rows {
+            grid: Grid {
+                width: width as u8,
+                height: height as u8,
+            },
+            cells: 0,
+            count: 0,
+            due: height as u8,
+        })
     }
-    if rest.is_empty() { Some(tiles) } else { None }
+
+    // The tiles of a row, packed. There are none if one is missing or too large, or if something follows the last.
+    fn read_row(self, row: Line) -> Option<u64>
+        ensures { result ≡ packed_to (numbers_in (self.grid.width * self.grid.height) self.grid.width (bytes row.entry)) }
+    {
+        let mut tiles = 0;
+        let mut rest = row;
+        for column in 0..self.grid.width as usize {
+            let (tile, after) = forms::number(rest)?;
+            if tile as usize >= self.grid.cells() {
+                return None;
+            }
+            tiles += (tile as u64) << (BITS_PER_CELL * column);
+            rest = after;
+        }
+        if rest.is_empty() { Some(tiles) } else { None }
+    }
+
+    // With one row more, and what is due then.
+    fn with_row(self, row: Line) -> Option<Reader>
+        ensures { told_option result ≡ grown self.grid.width self.grid.height self.due (tiles_so_far self) (bytes row.entry) }
+    {
+        let tiles = self.read_row(row)?;
+        let grid = self.grid;
+        let cells = self.cells + (tiles << (BITS_PER_CELL * self.count));
+        if self.due == 1 {
+            return Some(Reader::Close(Board { grid, cells }));
+        }
+        Some(Reader::Rows(Rows {
+            grid,
+            cells,
+            count: self.count + grid.width as usize,
+            due: self.due - 1,
+        }))
+    }
 }
 
 impl Reader {
-    // Takes one line. A refusal leaves the reader as it was.
-    fn take(&mut self, line: Line, number: usize) -> Result<(), Refusal>
-        requires { Sound self.old }
-        ensures { Answers (taken (view self.old) number (bytes line.entry)) self.old self.new result }
+    // What is due and the form of the next line, judged together.
+    fn after(self, form: Form) -> Result<Reader, Fault>
+        ensures { (n : ℕ) → told_at n result ≡ next n (view self) (said form.entry) }
     {
-        match (self.expected, form_of(line)) {
-            (Expected::Head, Form::Size(width, height)) => {
-                if !is_side(width) || !is_side(height) {
-                    return Err(Refusal {
-                        fault: Fault::BoardSize,
-                        line: number,
-                    });
-                }
-                self.grid = Grid {
-                    width: width as u8,
-                    height: height as u8,
-                };
-                self.expected = Expected::Rows(height as u8);
-                Ok(())
+        match (self, form) {
+            (Reader::Head, Form::Size(width, height)) => {
+                let rows = Rows::new(width, height).ok_or(Fault::BoardSize)?;
+                Ok(Reader::Rows(rows))
             }
-            (Expected::Rows(left), Form::Row(row)) => {
-                let Some(tiles) = read_row(row, self.grid) else {
-                    return Err(Refusal {
-                        fault: Fault::BadRow,
-                        line: number,
-                    });
-                };
-                self.cells += tiles << (CELL_BITS * self.count);
-                self.count += self.grid.width as usize;
-                self.expected = if left == 1 {
-                    Expected::Close
-                } else {
-                    Expected::Rows(left - 1)
-                };
-                Ok(())
-            }
-            (Expected::Close, Form::Close) => {
-                self.expected = Expected::End;
-                Ok(())
-            }
-            _ => Err(Refusal {
-                fault: Fault::LineForm,
-                line: number,
-            }),
+            (Reader::Rows(rows), Form::Row(row)) => rows.with_row(row).ok_or(Fault::BadRow),
+            (Reader::Close(board), Form::Close) => Ok(Reader::End(board)),
+            _ => Err(Fault::LineForm),
         }
     }
 
     // The level, once no line is left; `number` is the line that would come next.
     fn finish(self, number: usize) -> Result<TileLevel, Refusal>
-        requires { (Sound self) × (0 < number) }
+        requires { 0 < number }
         ensures { told result ≡ finish number (view self) }
     {
-        match self.expected {
-            Expected::End => match TileLevel::new(self.grid, self.cells) {
-                Some(level) => Ok(level),
-                None => Err(Refusal {
-                    fault: Fault::TileNumbers,
-                    line: number - 1,
-                }),
-            },
-            _ => Err(Refusal {
-                fault: Fault::LineForm,
-                line: number,
-            }),
+        match self {
+            Reader::End(board) => TileLevel::new(board.grid, board.cells).ok_or(
+                Fault::TileNumbers.at(number - 1),
+            ),
+            _ => Err(Fault::LineForm.at(number)),
         }
+    }
+}
+
+impl LineReader for Reader {
+    type Error = Refusal;
+
+    ghost Takes = { λ reader n line r. seen view r ≡ taken (view reader) n line };
+
+    fn take(self, line: Line, number: usize) -> Result<Reader, Refusal> {
+        self.after(form_of(line)).map_err(|fault| fault.at(number))
     }
 }
 
@@ -156,26 +152,8 @@ pub fn read_level(text: &[u8]) -> Result<TileLevel, Refusal>
     ensures exactly { ReadsExactly text.now }
 {
     if !is_text(text) {
-        return Err(Refusal {
-            fault: Fault::NotText,
-            line: 0,
-        });
+        return Err(Fault::NotText.at(0));
     }
-    let mut reader = Reader {
-        expected: Expected::Head,
-        grid: Grid {
-            width: 0,
-            height: 0,
-        },
-        cells: 0,
-        count: 0,
-    };
-    let mut at = 0;
-    let mut number = 1;
-    while let Some(line) = next_line(text, at) {
-        reader.take(line, number)?;
-        at = line.text.len() + 1;
-        number += 1;
-    }
+    let ReadText { reader, number, .. } = read_lines(Reader::Head, text)?;
     reader.finish(number)
 }

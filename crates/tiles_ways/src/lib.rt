@@ -1,8 +1,8 @@
 //! How moves of tile levels are written: `(move up)` sends the blank up.
 #![tactic(auto)]
 
-ghost use Rattle.std.specs.Prelude.{◌≡◌};
-ghost use Rattle.pen.specs.Ink.{ink, Inked};
+ghost use Rattle.std.specs.Prelude.{◌≡◌, refl};
+ghost use Rattle.pen.specs.Ink.{Writes};
 ghost use Rattle.tiles.specs.Level.{tiles};
 ghost use Rattle.tiles_ways.specs.Moves.{direction_line, tile_notation};
 ghost use Rattle.tiles_ways.specs.Lawful;
@@ -13,17 +13,13 @@ use text::Line;
 use tiles::TileLevel;
 use ways::Kind;
 
-/// One move for each direction.
-const DIRECTIONS: u32 = 4;
-
 /// A tile level, as ways see it.
-#[derive(Clone, Copy)]
+#[derive(Clone, Copy, Debug)]
 pub struct TileKind(pub TileLevel);
 
 // Writes the line `(move DIRECTION)`.
 fn write_direction(direction: Direction, pen: &mut Pen)
-    ensures wrote { Inked (direction_line direction) (ink pen.old) (ink pen.new) }
-    ensures same { pen.new.out.ghost_name ≡ pen.old.out.ghost_name }
+    ensures { Writes (direction_line direction) pen.old pen.new }
 {
     pen.put(b"(move ");
     pen.put(direction.word());
@@ -35,13 +31,15 @@ impl Kind for TileKind {
 
     type Written = Direction;
 
+    const MOVES: u32 = Direction::COUNT;
+
+    ghost MOVES = { 4 };
+
     ghost notation = { λ z. tile_notation (tiles z.0) };
 
-    ghost lawful = { λ z. Lawful.lawful (tiles z.0) };
+    ghost counted = { λ _. refl };
 
-    fn moves(&self) -> u32 {
-        DIRECTIONS
-    }
+    ghost lawful = { λ z. Lawful.lawful (tiles z.0) };
 
     fn start(&self) -> u64 {
         self.0.start()
@@ -57,19 +55,18 @@ impl Kind for TileKind {
 
     fn read_move(&self, line: Line) -> Option<Direction> {
         let (spelled, rest) = forms::word(forms::arguments(line, b"move")?)?;
-        if rest.is_empty() {
-            Direction::from_word(spelled)
-        } else {
-            None
+        if !rest.is_empty() {
+            return None;
         }
+        Direction::try_from(spelled).ok()
     }
 
     fn move_number(&self, _at: &u64, written: &Direction) -> Option<u32> {
-        Some(written.number())
+        Some(u32::from(*written))
     }
 
     fn write_move(&self, _at: &u64, number: u32, pen: &mut Pen) {
-        if let Some(direction) = Direction::from_number(number) {
+        if let Ok(direction) = Direction::try_from(number) {
             write_direction(direction, pen);
         }
     }

@@ -3,3 +3,4 @@ pub mod Pass
 pub mod Accepting
 pub mod Lines
 pub mod Solving
+pub mod WayTexts

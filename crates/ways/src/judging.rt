@@ -1,169 +1,72 @@
-ghost use Rattle.std.specs.Prelude.{◌≡◌, ◌+◌, ◌^◌, ◌<◌, Ok, Err};
-ghost use Rattle.puzzle.specs.Game.{Reached};
-ghost use Rattle.text.specs.Lines.{bytes};
-ghost use Rattle.ways.specs.Judging.{followed, judged, AcceptsExactly};
-ghost use Rattle.ways.specs.Passing.{moved, taken, settled, finished};
+ghost use Rattle.std.specs.Prelude.{◌≡◌, ◌<◌, IfOk};
+ghost use Rattle.std.specs.Coded.{Coded-set};
+ghost use Rattle.text.specs.Reading.{seen};
+ghost use Rattle.ways.specs.Judging.{judged, AcceptsExactly};
+ghost use Rattle.ways.specs.Passing.{placed, IfLed, IfLed-prop, IsCounted, taken, finished};
 
 use crate::kind::Kind;
+use crate::progress::{Made, Progress};
+use crate::walk::Walk;
 use refusals::{Fault, Refusal};
-use text::{Line, next_line};
+use text::{Line, LineReader, read_lines};
 
 /// The word that opens a way.
 const WAY: &[u8] = b"way";
 
-/// What is due next in the text of a way.
-#[derive(Clone, Copy)]
-enum Stage {
-    Head,
-    Moves,
-    Closed,
+/// A reader of a way on a level, and how far it has come.
+#[derive(Drop)]
+struct WayReader<'a, K: Kind> {
+    kind: &'a K,
+    progress: Progress<Walk<'a, K>>,
+    ghost same: { IfLed (λ walk. walk.kind.now ≡ kind.now) progress } by { IfLed-prop (λ walk. walk.kind.now ≡ kind.now) (λ walk. Coded-set K.code walk.kind.now kind.now) progress },
 }
 
-/// How far a way has come: what its head announced, the moves so far, where they led, and the first refusal of one.
-#[derive(Clone, Copy)]
-struct Progress<P> {
-    stage: Stage,
-    announced: u32,
-    made: usize,
-    position: P,
-    fault: Option<Refusal>,
-}
+impl<'a, K: Kind> LineReader for WayReader<'a, K> {
+    type Error = Refusal;
 
-/// Follows one move as it is written: fills `into` with where it leads, or says why it is refused.
-fn follow<P: Copy, K: Kind<Position = P>>(
-    kind: &K,
-    from: &P,
-    written: &K::Written,
-    line: usize,
-    into: &mut P,
-) -> Result<(), Refusal>
-    ensures { Reached (K.Kind.notation kind.now).game from.now → elim result [ Ok _ ↦ followed (K.Kind.notation kind.now) from.now line written.now ≡ Ok into.new | Err e ↦ followed (K.Kind.notation kind.now) from.now line written.now ≡ Err e ] }
-{
-    let Some(number) = kind.move_number(from, written) else {
-        return Err(Refusal {
-            fault: Fault::NothingThere,
-            line,
-        });
-    };
-    if !kind.play(from, number, into) {
-        return Err(Refusal {
-            fault: Fault::ClosedMove,
-            line,
-        });
+    ghost Ready = { λ s n. IsCounted s.progress n };
+
+    ghost Takes = { λ s n l r. (seen (λ next. placed (λ walk. walk.position) next.progress) r ≡ taken (K.Kind.notation s.kind.now) (placed (λ walk. walk.position) s.progress) n l) × IfOk r (λ next. next.kind ≡ s.kind) };
+
+    // The form is judged at once; of the moves only the first refusal is kept, since a line out of form comes before
+    // all else.
+    fn take(self, line: Line, number: usize) -> Result<Self, Refusal> {
+        let WayReader { kind, progress } = self;
+        let progress = match progress {
+            Progress::Head => Progress::Moves(Made {
+                announced: forms::count(line, WAY).ok_or(Fault::WayForm.at(number))?,
+                count: 0,
+                led: Ok(Walk::start(kind)),
+            }),
+            Progress::Moves(made) if forms::is_closing(line) => Progress::Closed(made),
+            Progress::Moves(made) => {
+                let written = kind.read_move(line).ok_or(Fault::WayForm.at(number))?;
+                Progress::Moves(made.with_move(&written, number))
+            }
+            Progress::Closed(_) => return Err(Fault::WayForm.at(number)),
+        };
+        Ok(WayReader { kind, progress })
     }
-    if kind.is_goal(from) {
-        return Err(Refusal {
-            fault: Fault::AfterFinish,
-            line,
-        });
-    }
-    Ok(())
 }
 
-impl<P: Copy> Progress<P> {
-    /// Counts one move more, and follows it unless one before it was refused.
-    fn take_move<K: Kind<Position = P>>(&mut self, kind: &K, written: &K::Written, line: usize)
-        requires { self.old.made + 1 < 2 ^ 64 }
-        ensures { Reached (K.Kind.notation kind.now).game self.old.position → self.new ≡ moved (K.Kind.notation kind.now) self.old.announced (self.old.made + 1) self.old.position self.old.fault (followed (K.Kind.notation kind.now) self.old.position line written.now) }
+impl<'a, K: Kind> WayReader<'a, K> {
+    /// The judgement at the end of a text, where line `number` would come next.
+    fn conclude(self, number: usize, at_end: bool) -> Result<u32, Refusal>
+        requires { 0 < number }
+        ensures { result ≡ finished (K.Kind.notation self.entry.kind.now) (placed (λ walk. walk.position) self.entry.progress) number at_end }
     {
-        self.stage = Stage::Moves;
-        self.made += 1;
-        if self.fault.is_none() {
-            let from = self.position;
-            let mut into = from;
-            match follow(kind, &from, written, line, &mut into) {
-                Ok(()) => self.position = into,
-                Err(refusal) => self.fault = Some(refusal),
-            }
+        let WayReader { progress, .. } = self;
+        let made = match progress {
+            Progress::Closed(made) if at_end => made,
+            _ => return Err(Fault::WayForm.at(number)),
+        };
+        if made.announced as usize != made.count {
+            return Err(Fault::WayForm.at(1));
         }
-    }
-}
-
-/// Takes one line of a way. The form is judged at once; of the moves only the first refusal is kept, since a line
-/// out of form comes before all else.
-fn take_line<P: Copy, K: Kind<Position = P>>(
-    kind: &K,
-    progress: &mut Progress<P>,
-    line: Line,
-    number: usize,
-) -> Result<(), Refusal>
-    requires { progress.old.made + 1 < 2 ^ 64 }
-    ensures { Reached (K.Kind.notation kind.now).game progress.old.position → elim result [ Ok _ ↦ taken (K.Kind.notation kind.now) progress.old number (bytes line.entry) ≡ Ok progress.new | Err e ↦ taken (K.Kind.notation kind.now) progress.old number (bytes line.entry) ≡ Err e ] }
-{
-    let out_of_form = Refusal {
-        fault: Fault::WayForm,
-        line: number,
-    };
-    match progress.stage {
-        Stage::Head => {
-            let Some(announced) = forms::count(line, WAY) else {
-                return Err(out_of_form);
-            };
-            progress.announced = announced;
-            progress.stage = Stage::Moves;
+        if !made.led?.is_goal() {
+            return Err(Fault::NotFinished.at(number - 1));
         }
-        Stage::Moves => {
-            if forms::is_closing(line) {
-                progress.stage = Stage::Closed;
-            } else {
-                let Some(written) = kind.read_move(line) else {
-                    return Err(out_of_form);
-                };
-                progress.take_move(kind, &written, number);
-            }
-        }
-        Stage::Closed => return Err(out_of_form),
-    }
-    Ok(())
-}
-
-/// The judgement of a way whose lines were all in form, where line `number` would come next.
-fn settle<P: Copy, K: Kind<Position = P>>(
-    kind: &K,
-    progress: &Progress<P>,
-    number: usize,
-) -> Result<u32, Refusal>
-    requires { 0 < number }
-    ensures { Reached (K.Kind.notation kind.now).game progress.now.position → result ≡ settled (K.Kind.notation kind.now) progress.now.announced progress.now.position progress.now.fault number }
-{
-    if let Some(refusal) = progress.fault {
-        return Err(refusal);
-    }
-    let at = progress.position;
-    if !kind.is_goal(&at) {
-        return Err(Refusal {
-            fault: Fault::NotFinished,
-            line: number - 1,
-        });
-    }
-    Ok(progress.announced)
-}
-
-/// The judgement at the end of a text, where line `number` would come next.
-fn conclude<P: Copy, K: Kind<Position = P>>(
-    kind: &K,
-    progress: &Progress<P>,
-    number: usize,
-    at_end: bool,
-) -> Result<u32, Refusal>
-    requires { 0 < number }
-    ensures { Reached (K.Kind.notation kind.now).game progress.now.position → result ≡ finished (K.Kind.notation kind.now) progress.now number at_end }
-{
-    match progress.stage {
-        Stage::Closed if at_end => {
-            if progress.announced as usize == progress.made {
-                settle(kind, progress, number)
-            } else {
-                Err(Refusal {
-                    fault: Fault::WayForm,
-                    line: 1,
-                })
-            }
-        }
-        _ => Err(Refusal {
-            fault: Fault::WayForm,
-            line: number,
-        }),
+        Ok(made.announced)
     }
 }
 
@@ -171,23 +74,14 @@ fn conclude<P: Copy, K: Kind<Position = P>>(
 ///
 /// The form of all lines comes first, then the moves one by one, and at the end the finish. It is one pass over the
 /// text, and nothing is allocated.
-pub fn judge<P: Copy, K: Kind<Position = P>>(kind: &K, text: &[u8]) -> Result<u32, Refusal>
+pub fn judge<K: Kind>(kind: &K, text: &[u8]) -> Result<u32, Refusal>
     ensures answers { result ≡ judged (K.Kind.notation kind.now) text.now }
     ensures exactly { AcceptsExactly (K.Kind.notation kind.now) text.now }
 {
-    let mut progress = Progress {
-        stage: Stage::Head,
-        announced: 0,
-        made: 0,
-        position: kind.start(),
-        fault: None,
+    let start = WayReader {
+        kind,
+        progress: Progress::Head,
     };
-    let mut at = 0;
-    let mut number = 1;
-    while let Some(line) = next_line(text, at) {
-        take_line(kind, &mut progress, line, number)?;
-        at = line.text.len() + 1;
-        number += 1;
-    }
-    conclude(kind, &progress, number, at >= text.len())
+    let read = read_lines(start, text)?;
+    read.reader.conclude(read.number, read.left.is_empty())
 }

@@ -1,5 +1,5 @@
-ghost use Rattle.std.specs.Prelude.{◌≡◌, Some};
-ghost use Rattle.pen.specs.Ink.{ink, Inked};
+ghost use Rattle.std.specs.Prelude.{◌≡◌, ℕ, Some};
+ghost use Rattle.pen.specs.Ink.{Writes};
 ghost use Rattle.puzzle.specs.Game.{Played, Reached};
 ghost use Rattle.text.specs.Lines.{bytes};
 ghost use Rattle.ways.specs.Kinds.{Notation, Lawful};
@@ -20,8 +20,9 @@ pub trait Kind {
     ghost notation: { Self → Notation Self.Position Self.Written };
 
     /// How many move numbers there are.
-    fn moves(&self) -> u32
-        ensures { result ≡ (notation self.now).game.count };
+    const MOVES: u32;
+
+    ghost MOVES: { ℕ };
 
     /// The position that the level starts at.
     fn start(&self) -> Self::Position
@@ -45,8 +46,10 @@ pub trait Kind {
 
     /// Writes the line of an open move, without its line end.
     fn write_move(&self, at: &Self::Position, number: u32, pen: &mut Pen)
-        ensures wrote { Reached (notation self.now).game at.now → (q : Self.Position) → (notation self.now).game.move at.now number ≡ Some q → Inked ((notation self.now).line at.now number) (ink pen.old) (ink pen.new) }
+        ensures wrote { Reached (notation self.now).game at.now → (q : Self.Position) → (notation self.now).game.move at.now number ≡ Some q → Writes ((notation self.now).line at.now number) pen.old pen.new }
         ensures same { pen.new.out.ghost_name ≡ pen.old.out.ghost_name };
+
+    ghost counted: { (z : Self) → (notation z).game.count ≡ MOVES };
 
     ghost lawful: { (z : Self) → Lawful (notation z) };
 }

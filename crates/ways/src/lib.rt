@@ -3,6 +3,8 @@
 
 mod judging;
 mod kind;
+mod progress;
+mod walk;
 mod writing;
 
 pub use judging::judge;

@@ -1,9 +1,9 @@
-ghost use Rattle.std.specs.Prelude.{◌≡◌, ℕ, ◌≤◌, take};
+ghost use Rattle.std.specs.Prelude.{◌≡◌, ℕ, ◌≤◌};
 ghost use Rattle.pictures.specs.Pictures.{shape};
 ghost use Rattle.molecules.specs.Atoms.{atom_count};
 ghost use Rattle.molecules.specs.Molecules.{wanted};
 ghost use Rattle.slides.specs.Sets.{has};
-ghost use Rattle.atoms.specs.Board.{wall_at, labels_of, start_cells};
+ghost use Rattle.atoms.specs.Board.{wall_at, label_in, labels_of, filled, start_cells};
 ghost use Rattle.atoms.specs.Making.{made, told, MakesValid};
 
 use super::AtomLevel;
@@ -13,17 +13,10 @@ use pictures::{Cell, Picture};
 use refusals::Fault;
 use slides::CellSet;
 
-/// The most atoms that a level may have.
-const MOST_ATOMS: usize = 16;
-
-/// The atoms of a board by number: their labels, and their cells.
-#[derive(Clone, Copy)]
-struct Roll {
-    labels: [u8; MOST_ATOMS],
-    cells: [u8; MOST_ATOMS],
-}
-
 impl AtomLevel {
+    /// The most atoms that a level may have.
+    pub const MOST_ATOMS: usize = 16;
+
     /// The level on this board that wants this molecule. It is refused if an edge of the molecule holds no atom; and
     /// then if the board has no atom or more than 16, or if a label is not as often in the molecule as on the board.
     pub fn new(board: &Picture, molecule: &Molecule) -> Result<AtomLevel, Fault>
@@ -34,48 +27,67 @@ impl AtomLevel {
             return Err(Fault::BareEdge);
         }
         let atoms = count_atoms(board);
-        if atoms == 0 || atoms > MOST_ATOMS || !molecule.has_labels_of(board) {
+        if !(1..=Self::MOST_ATOMS).contains(&atoms) || !molecule.has_labels_of(board) {
             return Err(Fault::AtomLabels);
         }
-        let Roll { labels, cells } = call_roll(board);
         Ok(AtomLevel {
             board: *board,
             molecule: *molecule,
             atoms,
-            labels,
-            start: Position { cells },
+            labels: labels_of(board),
+            start: start_of(board),
             walls: walls_of(board),
             places: GoalPlaces::find(board, molecule),
         })
     }
 }
 
-// The labels and the cells of at most 16 atoms.
-fn call_roll(board: &Picture) -> Roll
+// The labels of at most 16 atoms, by number.
+fn labels_of(board: &Picture) -> [u8; AtomLevel::MOST_ATOMS]
     requires { atom_count (shape board.now) ≤ 16 }
-    ensures cells { result.cells ≡ start_cells (shape board.now) }
-    ensures labels { take (atom_count (shape board.now)) result.labels ≡ labels_of (shape board.now) }
+    ensures { result ≡ filled (labels_of (shape board.now)) }
 {
-    let mut labels = [0; MOST_ATOMS];
-    let mut cells = [0; MOST_ATOMS];
-    let mut count = 0;
-    for place in 0..board.grid().cells() {
-        if let Cell::Atom(label) = board.cell(place) {
-            labels[count] = label;
-            cells[count] = place as u8;
-            count += 1;
-        }
+    let mut labels = [0; AtomLevel::MOST_ATOMS];
+    for (atom, label) in board.cells().iter().filter_map(label).enumerate() {
+        labels[atom] = label;
     }
-    Roll { labels, cells }
+    labels
+}
+
+// The label of the atom on a cell.
+fn label(cell: &Cell) -> Option<u8>
+    ensures { result ≡ label_in cell.now }
+{
+    match *cell {
+        Cell::Atom(label) => Some(label),
+        _ => None,
+    }
+}
+
+// Where at most 16 atoms stand on the board.
+fn start_of(board: &Picture) -> Position
+    requires { atom_count (shape board.now) ≤ 16 }
+    ensures { result.cells ≡ start_cells (shape board.now) }
+{
+    let mut cells = [0; AtomLevel::MOST_ATOMS];
+    let atoms = board
+        .cells()
+        .iter()
+        .enumerate()
+        .filter(|(_, cell)| matches!(cell, Cell::Atom(_)));
+    for (atom, (place, _)) in atoms.enumerate() {
+        cells[atom] = place as u8;
+    }
+    Position { cells }
 }
 
 // The walls of a board.
 fn walls_of(board: &Picture) -> CellSet
     ensures { (k : ℕ) → has result k ≡ wall_at (shape board.now) k }
 {
-    let mut walls = CellSet::empty();
-    for place in 0..board.grid().cells() {
-        if let Cell::Wall = board.cell(place) {
+    let mut walls = CellSet::default();
+    for (place, cell) in board.cells().iter().enumerate() {
+        if *cell == Cell::Wall {
             walls.insert(place as u8);
         }
     }

@@ -1,18 +1,17 @@
-ghost use Rattle.std.specs.Prelude.{◌≡◌, ℕ, Decides};
+ghost use Rattle.std.specs.Prelude.{◌≡◌, ℕ, take, Decides};
 ghost use Rattle.puzzle.specs.Game.{Played};
 ghost use Rattle.slides.specs.Sets.{has};
-ghost use Rattle.atoms.specs.Level.{atoms, game, blocked, moved, finished};
+ghost use Rattle.pictures.specs.Pictures.{shape};
+ghost use Rattle.atoms.specs.Board.{labels_of};
+ghost use Rattle.atoms.specs.Level.{atoms, count, game, blocked, moved, finished};
 ghost use Rattle.atoms.specs.Moves.{MovesExactly, Finished, atom_at};
 
 use super::AtomLevel;
 use crate::position::Position;
-use grid::Direction;
+use grid::{Direction, Place};
 use molecules::Molecule;
 use pictures::Picture;
 use slides::{CellSet, slide};
-
-/// The moves of each atom, one for each direction.
-const DIRECTIONS: u32 = 4;
 
 impl AtomLevel {
     /// The board as it is drawn, with the atoms where they start.
@@ -36,21 +35,14 @@ impl AtomLevel {
         self.start
     }
 
-    /// The number of the atom that stands on the cell of this row and this column.
-    pub fn atom_at(&self, position: &Position, row: u32, column: u32) -> Option<u32>
-        ensures { result ≡ atom_at (atoms self.now) position.now row column }
+    /// The number of the atom that stands at a place of the board.
+    pub fn atom_at(&self, position: &Position, place: Place) -> Option<u32>
+        ensures { result ≡ atom_at (atoms self.now) position.now place }
     {
-        let grid = self.board.grid();
-        if column >= grid.width as u32 || row >= grid.height as u32 {
-            return None;
-        }
-        let cell = row * grid.width as u32 + column;
-        for atom in 0..self.atoms {
-            if cell == position.cells[atom] as u32 {
-                return Some(atom as u32);
-            }
-        }
-        None
+        let cell = self.board.grid().cell(place)?;
+        let mut stands = self.standing(position).iter();
+        let atom = stands.position(|at| usize::from(*at) == cell)?;
+        Some(atom as u32)
     }
 
     /// Plays move 4 × atom + direction: the atom slides up (0), down (1), left (2) or right (3). It answers whether the
@@ -59,21 +51,25 @@ impl AtomLevel {
         ensures plays { Played (moved (atoms self.now) position.now number) result into.old into.new }
         ensures exactly { MovesExactly (atoms self.now) position.now number }
     {
-        let atom = (number / DIRECTIONS) as usize;
-        if atom >= self.atoms {
-            return false;
-        }
-        let Some(direction) = Direction::from_number(number % DIRECTIONS) else {
+        let Some(after) = self.moved(position, number) else {
             return false;
         };
-        let from = position.cells[atom] as usize;
-        let blocked = self.blocked(position);
-        let Some(cell) = slide(self.board.grid(), &blocked, from, direction) else {
-            return false;
-        };
-        *into = *position;
-        into.cells[atom] = cell as u8;
+        *into = after;
         true
+    }
+
+    // The position after a move; none if the move is closed.
+    fn moved(&self, position: &Position, number: u32) -> Option<Position>
+        ensures { result ≡ moved (atoms self.now) position.now number }
+    {
+        let atom = (number / Direction::COUNT) as usize;
+        let from = *self.standing(position).get(atom)?;
+        let direction = Direction::try_from(number % Direction::COUNT).ok()?;
+        let blocked = self.blocked(position);
+        let cell = slide(self.board.grid(), &blocked, usize::from(from), direction)?;
+        let mut after = *position;
+        after.cells[atom] = cell as u8;
+        Some(after)
     }
 
     /// Whether on some goal place every atom stands on a cell of its label.
@@ -81,11 +77,12 @@ impl AtomLevel {
         ensures says { result ≡ finished (atoms self.now) position.now }
         ensures decides { Decides result (Finished (atoms self.now) position.now) }
     {
+        let stands = self.standing(position);
+        let labels = self.labels();
         let mut found = false;
         'places: for place in self.places.as_slice() {
-            for atom in 0..self.atoms {
-                let (cell, label) = (position.cells[atom], self.labels[atom]);
-                if !self.molecule.wants(&self.board, *place, cell, label) {
+            for (cell, label) in stands.iter().zip(labels) {
+                if !self.molecule.wants(&self.board, *place, *cell, *label) {
                     continue 'places;
                 }
             }
@@ -100,9 +97,23 @@ impl AtomLevel {
         ensures { (k : ℕ) → has result k ≡ blocked (atoms self.now) position.now k }
     {
         let mut blocked = self.walls;
-        for atom in 0..self.atoms {
-            blocked.insert(position.cells[atom]);
+        for cell in self.standing(position) {
+            blocked.insert(*cell);
         }
         blocked
+    }
+
+    // The labels of the atoms, by number.
+    fn labels(&self) -> &[u8]
+        ensures { result.now ≡ labels_of (shape self.now.board) }
+    {
+        &self.labels[..self.atoms]
+    }
+
+    // The cells on which the atoms stand, by number.
+    fn standing<'a>(&self, position: &'a Position) -> &'a [u8]
+        ensures { result.now ≡ take (count (atoms self.now)) position.now.cells }
+    {
+        &position.cells[..self.atoms]
     }
 }

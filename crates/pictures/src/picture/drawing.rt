@@ -5,18 +5,18 @@ use super::Picture;
 use crate::cell::Cell;
 use grid::Grid;
 
-/// The most cells that a picture is wide and high.
-const LONGEST_SIDE: usize = 16;
-
 /// As many cells as a picture may have.
-const MOST_CELLS: usize = LONGEST_SIDE * LONGEST_SIDE;
+const MOST_CELLS: usize = Picture::LONGEST_SIDE * Picture::LONGEST_SIDE;
 
 impl Picture {
+    /// The most cells that a picture is wide and high.
+    pub const LONGEST_SIDE: usize = 16;
+
     /// A picture of this width with no row yet; there is none unless it is 1 to 16 wide.
     pub fn new(width: usize) -> Option<Picture>
         ensures { told result ≡ blank width }
     {
-        if width == 0 || width > LONGEST_SIDE {
+        if !(1..=Self::LONGEST_SIDE).contains(&width) {
             return None;
         }
         Some(Picture {
@@ -48,15 +48,18 @@ impl Picture {
         self.grid
     }
 
+    /// The cells, row by row.
+    pub fn cells(&self) -> &[Cell]
+        ensures { result.now ≡ (shape self.now).cells }
+    {
+        &self.cells[..self.grid.cells()]
+    }
+
     /// The cell with this number in reading order. Past the last cell all is wall.
     pub fn cell(&self, place: usize) -> Cell
         ensures { result ≡ cell_at (shape self.now) place }
     {
-        if place < self.grid.cells() {
-            self.cells[place]
-        } else {
-            Cell::Wall
-        }
+        self.cells().get(place).copied().unwrap_or(Cell::Wall)
     }
 
     /// The picture with one row more. There is none if the row is not as wide as the picture, if a character draws no
@@ -65,13 +68,13 @@ impl Picture {
         ensures { told result ≡ with_row (shape self.now) row.now }
     {
         let Grid { width, height } = self.grid;
-        if row.len() != width as usize || height as usize >= LONGEST_SIDE {
+        if row.len() != usize::from(width) || usize::from(height) >= Self::LONGEST_SIDE {
             return None;
         }
         let mut cells = self.cells;
         let first = self.grid.cells();
-        for i in 0..row.len() {
-            cells[first + i] = Cell::from_symbol(row[i] as char)?;
+        for (column, &symbol) in row.iter().enumerate() {
+            cells[first + column] = Cell::try_from(char::from(symbol)).ok()?;
         }
         Some(Picture {
             grid: Grid {

@@ -1,10 +1,10 @@
-ghost use Rattle.std.specs.Prelude.{◌≡◌, ◌*◌, ◌<◌, ◌≤◌, take, Decides, MatchOption};
+ghost use Rattle.std.specs.Prelude.{◌≡◌, ◌*◌, ◌<◌, ◌≤◌, ◌↔◌, take, IsTrue, MatchOption};
 ghost use Rattle.puzzle.specs.Game.{Played};
-ghost use Rattle.tiles.specs.Board.{cells, blank_from, home};
-ghost use Rattle.tiles.specs.Level.{tiles, tiles_of, Valid, side, sent, moved, finished};
+ghost use Rattle.tiles.specs.Board.{cells, blank_of, home};
+ghost use Rattle.tiles.specs.Level.{tiles, tiles_of, Valid, side, moved, finished};
 
 use super::TileLevel;
-use crate::position::{is_numbered, tile_at, with_swapped};
+use crate::position::{UsedCells, is_numbered, with_swapped};
 use grid::{Direction, Grid};
 
 /// The fewest cells that a board is wide and high.
@@ -16,9 +16,9 @@ const LONGEST_SIDE: u32 = 4;
 /// Whether a board may be this wide, or this high.
 pub fn is_side(length: u32) -> bool
     ensures says { result ≡ side length }
-    ensures decides { Decides result ((2 ≤ length) × (length ≤ 4)) }
+    ensures decides { IsTrue result ↔ ((2 ≤ length) × (length ≤ 4)) }
 {
-    SHORTEST_SIDE <= length && length <= LONGEST_SIDE
+    (SHORTEST_SIDE..=LONGEST_SIDE).contains(&length)
 }
 
 // The tile that belongs on `cell` of a board of `count` cells: they count up in reading order, and the blank is last.
@@ -35,8 +35,8 @@ impl TileLevel {
     pub fn new(grid: Grid, start: u64) -> Option<TileLevel>
         ensures { MatchOption result (Valid (tiles_of grid.width grid.height start) → ⊥) (λ l. (tiles l ≡ tiles_of grid.width grid.height start) × Valid (tiles l)) }
     {
-        if is_side(grid.width as u32)
-            && is_side(grid.height as u32)
+        if is_side(u32::from(grid.width))
+            && is_side(u32::from(grid.height))
             && is_numbered(start, grid.cells())
         {
             Some(TileLevel { grid, start })
@@ -64,10 +64,7 @@ impl TileLevel {
     pub fn play(&self, position: u64, number: u32, into: &mut u64) -> bool
         ensures { Played (moved (tiles self.now) position number) result into.old into.new }
     {
-        let Some(direction) = Direction::from_number(number) else {
-            return false;
-        };
-        let Some(next) = self.slide(position, direction) else {
+        let Some(next) = self.moved(position, number) else {
             return false;
         };
         *into = next;
@@ -79,18 +76,16 @@ impl TileLevel {
         ensures { result ≡ finished (tiles self.now) position }
     {
         let count = self.grid.cells();
-        for cell in 0..count {
-            if tile_at(position, cell) as usize != home_tile(count, cell) {
-                return false;
-            }
-        }
-        true
+        UsedCells::new(position, count)
+            .enumerate()
+            .all(|(cell, tile)| usize::from(tile) == home_tile(count, cell))
     }
 
-    // The position after the blank went one cell in this direction.
-    fn slide(&self, position: u64, direction: Direction) -> Option<u64>
-        ensures { result ≡ sent (tiles self.now) position direction }
+    // The position after a move.
+    fn moved(&self, position: u64, number: u32) -> Option<u64>
+        ensures { result ≡ moved (tiles self.now) position number }
     {
+        let direction = Direction::try_from(number).ok()?;
         let blank = self.blank(position)?;
         let cell = self.grid.neighbour(blank, direction)?;
         Some(with_swapped(position, blank, cell))
@@ -98,13 +93,8 @@ impl TileLevel {
 
     // The blank's cell.
     fn blank(&self, position: u64) -> Option<usize>
-        ensures { result ≡ blank_from 0 (take (self.now.grid.width * self.now.grid.height) (cells position)) }
+        ensures { result ≡ blank_of (take (self.now.grid.width * self.now.grid.height) (cells position)) }
     {
-        for cell in 0..self.grid.cells() {
-            if tile_at(position, cell) == 0 {
-                return Some(cell);
-            }
-        }
-        None
+        UsedCells::new(position, self.grid.cells()).position(|tile| tile == 0)
     }
 }

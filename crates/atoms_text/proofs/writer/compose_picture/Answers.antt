@@ -1,25 +1,20 @@
-use Rattle.std.proofs.Common.{◌≡◌, ◌<◌, ◌≤◌, refl, ap, ◌∙◌, arith}
+use Rattle.std.proofs.Common.{ap, ◌∙◌}
+use Rattle.std.specs.Slice.Iter.{chunks_rest, chunks_size}
 use Rattle.grid.specs.declared.Grid.{Grid}
-use Rattle.pictures.specs.Pictures.{shape}
-use Rattle.pen.proofs.Ink.{leads_start, leads_more, leads_as, leads_end}
-use Rattle.atoms_text.proofs.Inking.{lines_start, lines_more, lines_all}
+use Rattle.atoms_text.proofs.Inking.{owed_start, owed_more, owed_end}
 use Rattle.atoms_text.proofs.writer.compose_picture.Goals as goal
-use Rattle.atoms_text.proofs.writer.compose_picture.Goals.{After-grid-row-end}
-
-high : (c : After-grid-row-end) → c.grid-row-end.result.height ≡ (shape c.args.picture.now).height
-high c = ap (λ (g : Grid). g.height) c.grid-row-end.ensures
 
 pub loop-row-init : goal.loop-row-init
-loop-row-init c = (leads_start (lines_start _ _), refl)
+loop-row-init c =
+    let chunks = c.chunks-row-items.ensures in
+    let same = c.into_iter-row-iterator.ensures.into_iter_gives in
+    owed_start _ c.args.picture.now _ _ _ (ap chunks_size same ∙ chunks.size ∙ c.from-width.ensures ∙ ap (λ (g : Grid). g.width) c.grid.ensures)
+    (ap chunks_rest same ∙ chunks.rest ∙ c.cells.ensures)
 
 pub loop-row-preserved : goal.loop-row-preserved
 loop-row-preserved c =
-    let inside : c.loop-row.row < (shape c.args.picture.now).height = omega (arith, high (goal.at.loop-row-preserved c).After-grid-row-end) in (
-      leads_more (leads_as (lines_more _ _ _ inside) c.loop-row.invariant.0) c.compose_row.ensures.wrote,
-      c.compose_row.ensures.same ∙ c.loop-row.invariant.1,
-    )
+    let step = c.in-Some.ensures.steps in
+    rw step.0 (owed_more _ _ c.loop-row.invariant step.1.0 step.1.1 step.1.2 c.compose_row.ensures)
 
 pub returns : goal.returns
-returns c =
-    let past : (shape c.args.picture.now).height ≤ c.loop-row.row = omega (arith, high (goal.at.returns c).After-grid-row-end) in
-    record { wrote = leads_end (leads_as (lines_all _ _ _ past) c.loop-row.invariant.0); same = c.loop-row.invariant.1 }
+returns c = owed_end c.loop-row.iterator.0 c.loop-row.invariant c.in-None.ensures.steps.1.0

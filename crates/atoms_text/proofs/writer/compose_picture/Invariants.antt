@@ -1,13 +1,10 @@
-use Rattle.std.proofs.Common.{◌≡◌}
-use Rattle.pen.specs.Ink.{ink}
+use Rattle.std.specs.Slice.Iter.{chunks_rest, chunks_size}
 use Rattle.text.specs.Lines.{join_lines}
 use Rattle.pictures.specs.Pictures.{shape}
 use Rattle.atoms_text.specs.Writing.{picture_lines}
-use Rattle.pen.proofs.Ink.{Leads}
-use Rattle.atoms_text.proofs.Inking.{lines_from}
+use Rattle.atoms_text.proofs.Inking.{Owed}
 use Rattle.atoms_text.proofs.writer.compose_picture.Given as goal
 
 abbrev pub invariant-loop-row : goal.invariant-loop-row
 invariant-loop-row l =
-    Leads (join_lines (picture_lines l.keyword (shape l.picture))) (lines_from l.keyword (shape l.picture) l.row) (ink l.initial.pen) (ink l.pen)
-    × (l.pen.out.ghost_name ≡ l.initial.pen.out.ghost_name)
+    Owed l.keyword (chunks_size l.row-iterator) (chunks_rest l.row-iterator) (join_lines (picture_lines l.keyword (shape l.picture))) l.initial.pen l.pen

@@ -1,22 +1,19 @@
-use Rattle.std.proofs.Common.{sym, ◌∙◌, subst}
-use Rattle.pen.specs.Ink.{ink, Inked}
-use Rattle.pen.proofs.Ink.{inked_more, leads_more, leads_as, leads_end}
-use Rattle.atoms_text.proofs.Inking.{symbols_more, symbols_all, line_text}
+use Rattle.std.proofs.Common.{◌+◌, ◌∷◌, map, drop, sym, ap, ◌∙◌}
+use Rattle.std.proofs.lemmas.List.{at_drop_more, at_drop_all}
+use Rattle.pictures.specs.declared.cell.Cell.TheVariants.{Wall}
+use Rattle.pictures.specs.Cells.{symbol_of}
+use Rattle.pen.proofs.Ink.{writes_more, writes_as, leads_more, leads_as, leads_end}
+use Rattle.atoms_text.proofs.Inking.{line_text}
 use Rattle.atoms_text.proofs.writer.compose_row.Goals as goal
 
-pub loop-column-preserved : goal.loop-column-preserved
-loop-column-preserved c =
-    let more = symbols_more c.args.picture.now _ c.grid-width.ensures c.args.row c.requires _ _ _ c.loop-column-test.true c.cell.ensures c.symbol-symbol.ensures.drawn in (
-      leads_more (leads_as more c.loop-column.invariant.0) c.put-in-loop-column.ensures.wrote,
-      c.put-in-loop-column.ensures.same ∙ c.loop-column.invariant.1,
-    )
+pub loop-cell-preserved : goal.loop-cell-preserved
+loop-cell-preserved c =
+    let more = at_drop_more (map symbol_of) c.args.row.now _ Wall c.loop-cell-test.true ∙ ap (λ b. b ∷ map symbol_of (drop (c.loop-cell.cell-index + 1) c.args.row.now)) (sym c.from.ensures.drawn) in
+    leads_more (leads_as more c.loop-cell.invariant) c.put-in-loop-cell.ensures
 
 pub returns : goal.returns
 returns c =
-    let all = symbols_all c.args.picture.now _ c.grid-width.ensures c.args.row c.requires _ c.loop-column-test.false in
-    let row = leads_end (leads_as all c.loop-column.invariant.0) in
-    record {
-      wrote = subst (λ t. Inked t (ink c.args.pen.now) (ink c.put-4.new.self)) (sym (line_text _ _))
-          (inked_more c.put.ensures.wrote (inked_more c.put-2.ensures.wrote (inked_more c.put-3.ensures.wrote (inked_more row c.put-4.ensures.wrote))));
-      same = c.put-4.ensures.same ∙ c.loop-column.invariant.1 ∙ c.put-3.ensures.same ∙ c.put-2.ensures.same ∙ c.put.ensures.same;
-    }
+    let all = at_drop_all (map symbol_of) c.args.row.now _ c.loop-cell-test.false in
+    let row = leads_end (leads_as all c.loop-cell.invariant) in
+    writes_as (sym (line_text _ _))
+    (writes_more c.put.ensures (writes_more c.put-2.ensures (writes_more c.put-3.ensures (writes_more row c.put-4.ensures))))

@@ -1,11 +1,7 @@
-use Rattle.std.proofs.Common.{◌≡◌}
-use Rattle.pen.specs.Ink.{ink}
-use Rattle.pictures.specs.Pictures.{shape}
+use Rattle.std.proofs.Common.{map, drop}
+use Rattle.pictures.specs.Cells.{symbol_of}
 use Rattle.pen.proofs.Ink.{Leads}
-use Rattle.atoms_text.proofs.Inking.{symbols_from}
 use Rattle.atoms_text.proofs.writer.compose_row.Given as goal
 
-abbrev pub invariant-loop-column : goal.invariant-loop-column
-invariant-loop-column l =
-    Leads (symbols_from (shape l.picture) l.row 0) (symbols_from (shape l.picture) l.row l.column) (ink l.initial.pen) (ink l.pen)
-    × (l.pen.out.ghost_name ≡ l.initial.pen.out.ghost_name)
+abbrev pub invariant-loop-cell : goal.invariant-loop-cell
+invariant-loop-cell l = Leads (map symbol_of l.row) (map symbol_of (drop l.cell-index l.row)) l.initial.pen l.pen

@@ -11,4 +11,4 @@ pub overflow_mul-result : goal.overflow_mul-result
 overflow_mul-result c = omega (arith, few c)
 
 pub overflow_add-result : goal.overflow_add-result
-overflow_add-result c = omega (arith, few (goal.at.overflow_add-result c).In_ok-atom, c.number.ensures.named, number_of_lt c.args.written.now.direction)
+overflow_add-result c = omega (arith, few (goal.at.overflow_add-result c).In_ok-atom, c.from.ensures.named, number_of_lt c.args.written.now.direction)

@@ -37,7 +37,7 @@ returns c =
     elim c.if-room-long.branch [
       | then-room-long w ↦
           simp (w.self-is, w.copy_from_slice.ensures.after)
-          (record { wrote = real text pen c.if-self.false c.if-text-self.false _ (omega arith) w.if-room-long.true; same = refl })
+          (record { inked = real text pen c.if-self.false c.if-text-self.false _ (omega arith) w.if-room-long.true; same = refl })
       | else-room-long w ↦
-          simp w.self-is (record { wrote = dry text pen c.if-self.false c.if-text-self.false w.if-room-long.false; same = refl })
+          simp w.self-is (record { inked = dry text pen c.if-self.false c.if-text-self.false w.if-room-long.false; same = refl })
     ]

@@ -1,5 +1,5 @@
 use Rattle.std.proofs.Common.{◌≡◌, ℕ, ◌+◌, ◌-◌, ◌*◌, ◌%◌, ◌^◌, ◌<◌, ◌≤◌, length, get_or, sym, ap, ◌∙◌, subst, arith}
-use Rattle.std.proofs.ByRecursion.{All-get_or}
+use Rattle.std.proofs.lemmas.List.Elements.{All-get_or}
 use Rattle.tiles.specs.Board.{packed, cells, swapped}
 use Rattle.tiles.proofs.Board.{Small, length_cells, small_cells, packed_cells, shl_cell, tile_le, packed_swapped, packed_lt, length_swapped, small_swapped}
 use Rattle.tiles.proofs.position.with_swapped.Goals as goal
@@ -28,10 +28,10 @@ goes p b t v fits hb ht apart blank is =
     let power : 16 ^ length (swapped ts b t) ≡ 16 ^ 16 = ap (λ k. 16 ^ k) (length_swapped ts b t ∙ long) in
     record { part = omega arith; fits = omega arith; after = omega arith }
 
-at_call : (c : goal.After-tile_at-tile) → Goes c.args.position c.args.blank c.args.cell c.tile_at-tile.result
+at_call : (c : goal.After-from-tile) → Goes c.args.position c.args.blank c.args.cell c.from-tile.result
 at_call c =
     goes _ _ _ _ (omega (arith, c.ranges.position)) c.requires.target c.requires.source c.requires.apart c.requires.empty
-    c.tile_at-tile.ensures
+    (c.from-tile.ensures ∙ c.tile_at.ensures)
 
 pub overflow_sub-result : goal.overflow_sub-result
 overflow_sub-result c = (at_call c).part

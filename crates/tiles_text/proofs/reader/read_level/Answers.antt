@@ -1,51 +1,38 @@
-use Rattle.std.proofs.Common.{Err, sym, ap, ◌∙◌, arith, rules}
+use Rattle.std.proofs.Common.{◌≡◌, List, true, Err, Result, ℕ, sym, ap, ◌∙◌, rules}
 use Rattle.std.proofs.lemmas.Result.{err_from_is_err_and}
-use Rattle.tiles_text.specs.Reading.{told, finished}
+use Rattle.refusals.specs.declared.Refusal.{Refusal}
+use Rattle.refusals.specs.declared.Fault.TheVariants.{NotText}
+use Rattle.refusals.specs.Refusals.{refusal}
+use Rattle.text.specs.Lines.{Reading, is_text, split, concluded}
+use Rattle.text.specs.Reading.{ReadsLines, seen, seen_reading}
+use Rattle.text.proofs.Taking.{text_reads_seen}
+use Rattle.tiles_text.specs.declared.reader.Reader.{Reader}
+use Rattle.tiles_text.specs.declared.reader.Reader.TheVariants.{Head}
+use Rattle.tiles_text.specs.Reading.{taken, finish, read_level, told}
 use Rattle.tiles_text.specs.Reader.{view}
-use Rattle.text.proofs.Lines.{Found, line_found, line_missing}
-use Rattle.tiles_text.proofs.Looping.{read_text_lem, line_taken, line_refused, lines_end}
 use Rattle.tiles_text.proofs.RoundTrip.{reads_exactly}
 use Rattle.tiles_text.proofs.reader.read_level.Goals as goal
-use Rattle.tiles_text.proofs.reader.read_level.Goals.{In-Some}
 
-here : (c : In-Some) → Found c.args.text.now c.loop-line.at c.in-Some.line
-here c = line_found _ _ _ c.in-Some.ensures
+-- what the lines of a text make of the reader decides what the text is read as
+read : (text : List ℕ) (r : Result (Reading Reader) Refusal) → true ≡ is_text text → ReadsLines (λ s n l t. seen view t ≡ taken (view s) n l) Head 1 (split text) r → concluded finish (seen_reading view r) ≡ read_level text
+read text r is reads =
+    text_reads_seen _ taken view (λ s n l t takes. takes) finish (refusal NotText 0) Head text r (sym is) reads
 
 pub returns-then-not-is_text : goal.returns-then-not-is_text
 returns-then-not-is_text c = record { reads = search rules; exactly = reads_exactly _ }
 
-pub returns-in_err-take : goal.returns-in_err-take
-returns-in_err-take c =
+pub returns-in_err-reader : goal.returns-in_err-reader
+returns-in_err-reader c =
     let p = err_from_is_err_and c.from_residual.result c.from_residual.ensures.1 in
     record {
       reads =
           ap told (p.1 ∙ ap Err p.2)
-          ∙ ap finished (line_refused _ _ _ _ c.loop-line.invariant.0 _ (here (goal.at.returns-in_err-take c).In-Some) _ c.in_err-take.ensures.0)
-          ∙ read_text_lem c.args.text.now (sym c.is_text.ensures ∙ c.if-not-is_text.false);
+          ∙ read c.args.text.now _ (sym c.if-not-is_text.false ∙ c.is_text.ensures) c.in_err-reader.ensures.reads;
       exactly = reads_exactly _;
     }
 
-pub loop-line-preserved : goal.loop-line-preserved
-loop-line-preserved c =
-    let line = here (goal.at.loop-line-preserved c).In-Some in
-    let took = c.in_ok-take.ensures in (
-      line_taken _ _ _ _ c.loop-line.invariant.0 c.in-Some.line line (view c.take.new.self) took.0,
-      took.1,
-      omega arith,
-      omega (arith, line.long),
-      omega (arith, line.long, line.ended),
-    )
-
-pub loop-line-smaller : goal.loop-line-smaller
-loop-line-smaller c =
-    let line = here (goal.at.loop-line-smaller c).In-Some in
-    omega (arith, line.long, line.ended)
-
 pub returns : goal.returns
 returns c = record {
-  reads =
-      c.finish.ensures
-      ∙ lines_end _ _ _ _ c.loop-line.invariant.0 (line_missing _ _ c.in_default.ensures)
-      ∙ read_text_lem c.args.text.now (sym c.is_text.ensures ∙ c.if-not-is_text.false);
+  reads = c.finish.ensures ∙ read c.args.text.now _ (sym c.if-not-is_text.false ∙ c.is_text.ensures) c.in_ok-reader.ensures.reads;
   exactly = reads_exactly _;
 }

@@ -1,75 +1,30 @@
-use Rattle.std.proofs.Common.{◌+◌, [], drop, None, Err, sym, ap, ◌∙◌, subst, arith}
-use Rattle.std.proofs.lemmas.List.{length-drop}
+use Rattle.std.proofs.Common.{refl, ap, ◌∙◌}
 use Rattle.std.proofs.lemmas.Result.{err_from_is_err_and}
-use Rattle.puzzle.specs.Game.{Reached, here}
-use Rattle.text.specs.Lines.{split, read_lines}
-use Rattle.text.proofs.Lines.{line_found, line_missing, read_step, read_end}
-use Rattle.text.proofs.Scanning.{empty_at}
-use Rattle.ways.specs.declared.judging.Stage.TheVariants.{Head}
-use Rattle.ways.specs.Passing.{progress, taken, finished, concluded}
-use Rattle.ways.proofs.Steps.{taken_kept}
-use Rattle.ways.proofs.Pass.{one_pass}
+use Rattle.ways.specs.declared.judging.WayReader.{WayReader}
+use Rattle.ways.specs.Passing.{placed, finished}
+use Rattle.ways.proofs.Pass.{judged_by}
 use Rattle.ways.proofs.Accepting.{accepts_exactly}
 use Rattle.ways.proofs.judging.judge.Goals as goal
 
-pub loop-line-init : goal.loop-line-init
-loop-line-init g c =
-    let k = g.K.Kind.notation c.args.kind.now in (
-      ap (λ p. read_lines (taken k) (progress Head 0 0 p None) 1 (split c.args.text.now)) c.start.ensures,
-      subst (Reached k.game) (sym c.start.ensures) ([], here),
-      omega arith,
-      omega arith,
-      omega arith,
-      omega arith,
-    )
-
-pub returns-in_err-take_line : goal.returns-in_err-take_line
-returns-in_err-take_line g c =
-    let k = g.K.Kind.notation c.args.kind.now in
+pub returns-in_err-read : goal.returns-in_err-read
+returns-in_err-read g c =
     let t = c.args.text.now in
-    let inv = c.loop-line.invariant in
-    let found = line_found t c.loop-line.at c.in-Some.line c.in-Some.ensures in
+    let kind = c.args.kind in
     let p = err_from_is_err_and c.from_residual.result c.from_residual.ensures.1 in
-    let step = ap (taken k c.loop-line.progress c.loop-line.number) (sym found.whole) ∙ c.in_err-take_line.ensures inv.1 in
-    record {
-      answers =
-          p.1 ∙ ap Err p.2
-          ∙ ap (concluded k) (sym (read_step (taken k) c.loop-line.progress c.loop-line.number t c.loop-line.at _ found.ended step) ∙ inv.0)
-          ∙ one_pass k t;
-      exactly = accepts_exactly k (g.met.K.Kind.lawful c.args.kind.now) t;
-    }
-
-pub loop-line-preserved : goal.loop-line-preserved
-loop-line-preserved g c =
-    let k = g.K.Kind.notation c.args.kind.now in
-    let t = c.args.text.now in
-    let inv = c.loop-line.invariant in
-    let found = line_found t c.loop-line.at c.in-Some.line c.in-Some.ensures in
-    let took = c.in_ok-take_line.ensures inv.1 in
-    let step = ap (taken k c.loop-line.progress c.loop-line.number) (sym found.whole) ∙ took in
-    let kept = taken_kept k (g.met.K.Kind.lawful c.args.kind.now) c.loop-line.progress c.take_line.new.progress c.loop-line.number _ inv.1 took in
-    let long = found.long in
-    let ended = found.ended in (
-      ap (λ n. read_lines (taken k) c.take_line.new.progress (c.loop-line.number + 1) (split (drop (n + 1) t))) long
-          ∙ sym (read_step (taken k) c.loop-line.progress c.loop-line.number t c.loop-line.at _ ended step) ∙ inv.0,
-      kept.0,
-      omega arith,
-      omega arith,
-      omega arith,
-      omega arith,
-    )
+    let said = judged_by {S = WayReader g.row.K.Denot g.row.K-Position.Denot g.row.K-Written.Denot g.K.Kind} (λ b. g.K.Kind.notation b.now) (λ s. s.kind) (λ s. placed (λ walk. walk.position) s.progress) kind _ refl refl t _ c.in_err-read.ensures.reads in
+    record { answers = rw (p.1, p.2) said.0; exactly = accepts_exactly (g.K.Kind.notation kind.now) (g.met.K.Kind.lawful kind.now) t }
 
 pub returns : goal.returns
 returns g c =
-    let k = g.K.Kind.notation c.args.kind.now in
     let t = c.args.text.now in
-    let at = c.loop-line.at in
-    let inv = c.loop-line.invariant in
-    let over = line_missing t at c.in_default.ensures in
+    let kind = c.args.kind in
+    let k = g.K.Kind.notation kind.now in
+    let read = c.in_ok-read.read in
+    let said = judged_by {S = WayReader g.row.K.Denot g.row.K-Position.Denot g.row.K-Written.Denot g.K.Kind} (λ b. g.K.Kind.notation b.now) (λ s. s.kind) (λ s. placed (λ walk. walk.position) s.progress) kind _ refl refl t _ c.in_ok-read.ensures.reads in
+    let view = placed (λ walk. walk.position) read.reader.progress in
     record {
       answers =
-          c.conclude.ensures inv.1 ∙ ap (finished k c.loop-line.progress c.loop-line.number) (empty_at t at _ (length-drop at t))
-          ∙ ap (concluded k) (sym (read_end (taken k) c.loop-line.progress c.loop-line.number t at over) ∙ inv.0)
-          ∙ one_pass k t;
-      exactly = accepts_exactly k (g.met.K.Kind.lawful c.args.kind.now) t;
+          c.conclude.ensures ∙ ap (λ b. finished (g.K.Kind.notation b.now) view read.number c.is_empty.result) said.1
+          ∙ ap (finished k view read.number) c.is_empty.ensures ∙ said.0;
+      exactly = accepts_exactly k (g.met.K.Kind.lawful kind.now) t;
     }

@@ -1,31 +1,22 @@
-use Rattle.std.proofs.Common.{◌<◌, ◌≤◌, length, sym, ◌∙◌, arith}
-use Rattle.atoms.specs.Level.{atoms, count}
-use Rattle.atoms.proofs.Finding.{found_here, found_more, found_none, atom_at_on}
+use Rattle.std.proofs.Common.{◌≡◌, eqb, sym, ◌∙◌, rules, tests}
+use Rattle.std.proofs.lemmas.Iterator.{YieldsList-from_slice}
+use Rattle.std.proofs.lemmas.Iterator.Search.{position_from_yields_List}
+use Rattle.atoms.specs.Level.{atoms}
+use Rattle.atoms.proofs.Finding.{found, atom_at_by}
 use Rattle.atoms.proofs.level.AtomLevel.atom_at.Goals as goal
 
-pub returns-then-cell-position : goal.returns-then-cell-position
-returns-then-cell-position c =
+pub returns-in_err-atom : goal.returns-in_err-atom
+returns-in_err-atom c =
     let l = atoms c.args.self.now in
     let p = c.args.position.now in
-    let few : count l ≤ length p.cells = omega (arith, c.args.self.now.counted) in
-    let there : c.loop-atom.atom < count l = omega (arith, c.args.self.now.counted) in
-    sym
-    (atom_at_on l p _ _ _ c.grid-grid.ensures c.if-row-grid.false c.if-column-grid.false
-    ∙ found_here l p _ _ few there c.loop-atom.invariant c.if-cell-position.true)
-
-pub loop-atom-preserved : goal.loop-atom-preserved
-loop-atom-preserved c =
-    let l = atoms c.args.self.now in
-    let p = c.args.position.now in
-    let few : count l ≤ length p.cells = omega (arith, c.args.self.now.counted) in
-    let there : c.loop-atom.atom < count l = omega (arith, c.args.self.now.counted) in
-    found_more l p _ _ few there c.loop-atom.invariant c.if-cell-position.false
+    let answer : c.position.result ≡ found l p c.in_ok-cell.cell =
+    position_from_yields_List (λ at. eqb at c.in_ok-cell.cell) _ _ _ c.position.ensures.ran (YieldsList-from_slice _ (c.iter-stands.ensures.rest ∙ c.standing.ensures)) (λ x b q k. search (rules, tests)) in
+    c.from_residual-in_err-atom.ensures ∙ sym c.in_err-atom.was ∙ atom_at_by l p _ _ _ _ c.grid.ensures c.in_ok-cell.ensures.named answer
 
 pub returns : goal.returns
 returns c =
     let l = atoms c.args.self.now in
     let p = c.args.position.now in
-    let past : count l ≤ c.loop-atom.atom = omega (arith, c.args.self.now.counted) in
-    sym
-    (atom_at_on l p _ _ _ c.grid-grid.ensures c.if-row-grid.false c.if-column-grid.false
-    ∙ found_none l p _ _ past c.loop-atom.invariant)
+    let answer : c.position.result ≡ found l p c.in_ok-cell.cell =
+    position_from_yields_List (λ at. eqb at c.in_ok-cell.cell) _ _ _ c.position.ensures.ran (YieldsList-from_slice _ (c.iter-stands.ensures.rest ∙ c.standing.ensures)) (λ x b q k. search (rules, tests)) in
+    sym c.in_ok-atom.was ∙ atom_at_by l p _ _ _ _ c.grid.ensures c.in_ok-cell.ensures.named answer

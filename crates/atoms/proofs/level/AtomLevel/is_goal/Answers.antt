@@ -1,24 +1,30 @@
-use Rattle.std.proofs.Common.{◌≡◌, ◌<◌, true, sym, ap, ◌∙◌, arith}
-use Rattle.std.proofs.lemmas.Bool.Decides.{Decides-at}
+use Rattle.std.proofs.Common.{◌≡◌, ◌<◌, true, length, take, sym, ap, ◌∙◌, length-take, arith}
+use Rattle.std.proofs.lemmas.List.{length_push}
+use Rattle.std.proofs.lemmas.Slice.Zip.{zip_turn, zip_end}
 use Rattle.pictures.proofs.Shapes.{some_wide}
+use Rattle.atoms.specs.Board.{labels_of}
 use Rattle.atoms.specs.Level.{atoms, count, some_fit, finished}
-use Rattle.atoms.proofs.Fits.{fits_by, fits_more, fits_not, fits_all, none_more, some_here, none_all, finished_exactly}
+use Rattle.atoms.proofs.Roll.{length_labels}
+use Rattle.atoms.proofs.Fits.{fits_by, fits_more, fits_not, fits_all, none_more, some_here, none_all, finished_decides}
 use Rattle.atoms.proofs.level.AtomLevel.is_goal.Goals as goal
-
-pub loop-atom-preserved : goal.loop-atom-preserved
-loop-atom-preserved c =
-    let l = atoms c.args.self.now in
-    let p = c.args.position.now in
-    let here = fits_by l p _ _ _ _ _ c.args.self.now.labelled c.loop-atom-test.true c.if-not-wants.ensures.says in
-    fits_more l p _ _ c.loop-atom.invariant here
 
 pub places-preserved : goal.places-preserved
 places-preserved c =
     let l = atoms c.args.self.now in
     let p = c.args.position.now in
-    let there : c.loop-atom.atom < count l = omega (arith, c.args.self.now.counted) in
-    let not = fits_by l p _ _ _ _ _ c.args.self.now.labelled c.loop-atom-test.true c.if-not-wants.ensures.says in
+    let turn = zip_turn (take (count l) p.cells) (labels_of l.board) c.loop-cell.yielded c.into_iter-cell-iterator.result c.loop-cell.cell-iterator c.next.new.self _ (cc) (cc) c.loop-cell.yielded_by _ c.in-Some.is c.next.ensures.steps in
+    let there : length c.loop-cell.yielded < count l = omega (arith, turn.0, length-take (count l) p.cells) in
+    let not = fits_by l p _ _ _ _ _ there (turn.2 0) (turn.3 0) c.if-not-wants.ensures.says in
     (c.places.invariant.0, none_more l p _ _ c.places-test.true c.places.invariant.1 (fits_not l p _ _ there not))
+
+pub loop-cell-preserved : goal.loop-cell-preserved
+loop-cell-preserved c =
+    let l = atoms c.args.self.now in
+    let p = c.args.position.now in
+    let turn = zip_turn (take (count l) p.cells) (labels_of l.board) c.loop-cell.yielded c.into_iter-cell-iterator.result c.loop-cell.cell-iterator c.next.new.self _ (cc) (cc) c.loop-cell.yielded_by _ c.in-Some.is c.next.ensures.steps in
+    let there : length c.loop-cell.yielded < count l = omega (arith, turn.0, length-take (count l) p.cells) in
+    let here = fits_by l p _ _ _ _ _ there (turn.2 0) (turn.3 0) c.if-not-wants.ensures.says in
+    rw length_push (fits_more l p _ _ c.loop-cell.invariant here)
 
 pub returns-after-places : goal.returns-after-places
 returns-after-places c =
@@ -28,17 +34,18 @@ returns-after-places c =
     let says : c.places.found ≡ finished l p = c.places.invariant.0 ∙ sym none ∙ ap (some_fit l p) (c.as_slice-place-items.ensures ∙ c.args.self.now.placed) in
     record {
       says = says;
-      decides = Decides-at _ _ says (finished_exactly l p (some_wide c.args.self.now.molecule.picture));
+      decides = finished_decides l p (some_wide c.args.self.now.molecule.picture) _ says;
     }
 
-pub returns-after-loop-atom : goal.returns-after-loop-atom
-returns-after-loop-atom c =
+pub returns-in-None : goal.returns-in-None
+returns-in-None c =
     let l = atoms c.args.self.now in
     let p = c.args.position.now in
-    let all : count l ≡ c.loop-atom.atom = omega (arith, c.args.self.now.counted) in
-    let some = some_here l p _ _ c.places-test.true c.places.invariant.1 (fits_all l p _ _ all c.loop-atom.invariant) in
+    let end = zip_end (take (count l) p.cells) (labels_of l.board) c.loop-cell.yielded c.into_iter-cell-iterator.result c.loop-cell.cell-iterator c.next.new.self _ (cc) (cc) c.loop-cell.yielded_by c.in-None.is c.next.ensures.steps in
+    let all : count l ≡ length c.loop-cell.yielded = omega (arith, end, length-take (count l) p.cells, length_labels l.board, c.args.self.now.counted) in
+    let some = some_here l p _ _ c.places-test.true c.places.invariant.1 (fits_all l p _ _ all c.loop-cell.invariant) in
     let says : true ≡ finished l p = sym some ∙ ap (some_fit l p) (c.as_slice-place-items.ensures ∙ c.args.self.now.placed) in
     record {
       says = says;
-      decides = Decides-at _ _ says (finished_exactly l p (some_wide c.args.self.now.molecule.picture));
+      decides = finished_decides l p (some_wide c.args.self.now.molecule.picture) _ says;
     }

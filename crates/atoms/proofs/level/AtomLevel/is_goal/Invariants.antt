@@ -1,4 +1,4 @@
-use Rattle.std.proofs.Common.{◌≡◌, false}
+use Rattle.std.proofs.Common.{◌≡◌, false, length}
 use Rattle.atoms.specs.Level.{atoms}
 use Rattle.atoms.proofs.Fits.{FitsBefore, NoneFits}
 use Rattle.atoms.proofs.level.AtomLevel.is_goal.Given as goal
@@ -6,5 +6,5 @@ use Rattle.atoms.proofs.level.AtomLevel.is_goal.Given as goal
 abbrev pub invariant-places : goal.invariant-places
 invariant-places l = (l.found ≡ false) × NoneFits (atoms l.self) l.position l.place-items l.place-index
 
-abbrev pub invariant-loop-atom : goal.invariant-loop-atom
-invariant-loop-atom l = FitsBefore (atoms l.self) l.position l.place l.atom
+abbrev pub invariant-loop-cell : goal.invariant-loop-cell
+invariant-loop-cell l = FitsBefore (atoms l.self) l.position l.place (length l.yielded)

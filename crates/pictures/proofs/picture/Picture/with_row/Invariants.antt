@@ -4,7 +4,7 @@ use Rattle.pictures.specs.Pictures.{shape}
 use Rattle.pictures.proofs.Rows.{behind}
 use Rattle.pictures.proofs.picture.Picture.with_row.Given as goal
 
-abbrev pub invariant-loop-i : goal.invariant-loop-i
-invariant-loop-i l =
-    (behind (take (l.first + l.i) l.cells) (cells_of (drop l.i l.row)) ≡ behind (shape l.self).cells (cells_of l.row))
+abbrev pub invariant-loop-column : goal.invariant-loop-column
+invariant-loop-column l =
+    (behind (take (l.first + l.column) l.cells) (cells_of (drop l.column l.row)) ≡ behind (shape l.self).cells (cells_of l.row))
     × (length l.cells ≡ 256)

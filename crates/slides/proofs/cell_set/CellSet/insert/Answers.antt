@@ -5,4 +5,6 @@ use Rattle.slides.proofs.cell_set.CellSet.insert.Goals as goal
 
 pub returns : goal.returns
 unfolding has
-returns c = one_more c.args.self.now.words c.args.cell (omega arith) (omega (arith, c.ranges.cell))
+returns c =
+    rw c.from-cell.ensures
+    (one_more c.args.self.now.words c.args.cell (omega arith) (omega (arith, c.ranges.cell)))

@@ -1,22 +1,14 @@
-use Rattle.std.proofs.Common.{sym, ◌∙◌, arith}
-use Rattle.tiles.proofs.Board.{few_cells}
-use Rattle.tiles.proofs.Walks.{blank_here, blank_more, blank_none}
+use Rattle.std.proofs.Common.{eqb, sym, ap, ◌∙◌, rules, tests}
+use Rattle.std.proofs.lemmas.Iterator.Search.{position_from_yields_List}
+use Rattle.std.proofs.lemmas.Iterator.Consumers.{YieldsList-from_first}
+use Rattle.tiles.specs.Board.{unpacked, blank_of}
+use Rattle.tiles.specs.UsedCells.{cells_left}
+use Rattle.tiles.proofs.Board.{few_cells, take_cells}
 use Rattle.tiles.proofs.level.TileLevel.blank.Goals as goal
-
-pub tile_at-requires : goal.tile_at-requires
-tile_at-requires c = omega (arith, few_cells _ _ c.args.self.now.wide.1 c.args.self.now.high.1)
-
-pub returns-then-tile_at-eq0 : goal.returns-then-tile_at-eq0
-returns-then-tile_at-eq0 c =
-    let few = few_cells _ _ c.args.self.now.wide.1 c.args.self.now.high.1 in
-    sym (blank_here _ _ _ _ few (omega arith) c.tile_at.ensures c.if-tile_at-eq0.true) ∙ c.loop-cell.invariant
-
-pub loop-cell-preserved : goal.loop-cell-preserved
-loop-cell-preserved c =
-    let few = few_cells _ _ c.args.self.now.wide.1 c.args.self.now.high.1 in
-    sym (blank_more _ _ _ _ few (omega arith) c.tile_at.ensures c.if-tile_at-eq0.false) ∙ c.loop-cell.invariant
 
 pub returns : goal.returns
 returns c =
     let few = few_cells _ _ c.args.self.now.wide.1 c.args.self.now.high.1 in
-    sym (blank_none _ _ _ few (omega arith)) ∙ c.loop-cell.invariant
+    let listed = YieldsList-from_first (λ t. t) cells_left (unpacked c.cells.result c.args.position) c.new.ensures in
+    let found = position_from_yields_List (λ t. eqb t 0) _ _ c.position.result c.position.ensures.ran listed (λ t b q k. search (rules, tests)) in
+    found ∙ ap (λ n. blank_of (unpacked n c.args.position)) c.cells.ensures ∙ sym (ap blank_of (take_cells _ c.args.position few))

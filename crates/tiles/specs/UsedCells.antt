@@ -1,0 +1,8 @@
+-- The cells that are left of a walk over a position's used cells. Assumes nothing.
+use Rattle.std.specs.Prelude.{ℕ, List}
+use Rattle.tiles.specs.declared.position.UsedCells.{UsedCells}
+use Rattle.tiles.specs.Board.{unpacked}
+
+-- what lies on the cells that are left
+abbrev pub cells_left : UsedCells → List ℕ
+cells_left c = unpacked c.left c.position

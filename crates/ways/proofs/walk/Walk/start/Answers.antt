@@ -1,0 +1,8 @@
+use Rattle.std.proofs.Common.{[], sym, subst}
+use Rattle.puzzle.specs.Game.{Reached, here}
+use Rattle.ways.proofs.walk.Walk.start.Goals as goal
+
+pub invariant_of-result : goal.invariant_of-result
+invariant_of-result g c =
+    let k = g.K.Kind.notation c.args.kind.now in
+    record { reached = ∣ subst (Reached k.game) (sym c.start.ensures) ([], here) ∣₁ }
