@@ -1,13 +1,12 @@
 -- Where a molecule can lie on a board, cell by cell. Assumes nothing.
-use Rattle.std.proofs.Common.{◌≡◌, ℕ, ◌+◌, ◌<◌, Bool, true, false, not, ◌||◌, length, ap, ◌∙◌, ⊎_elim}
+use Rattle.std.proofs.Common.{◌≡◌, ℕ, ◌<◌, Bool, true, false, not, ◌||◌, length, ap, ⊎_elim}
 use Rattle.std.proofs.lemmas.List.{get_or_past}
-use Rattle.std.proofs.lemmas.Bool.{cases_Bool, cases_lt, or_cases, or_from, or_left, or_right, not-true, not_from_true, not_from_false, both_ways}
+use Rattle.std.proofs.lemmas.Bool.{cases_Bool, cases_lt, or_cases, or_left, or_right, not-true, not_from_false, both_ways}
 use Rattle.pictures.specs.declared.cell.Cell.TheVariants.{Wall}
 use Rattle.pictures.specs.Pictures.{Shape, cell_at}
-use Rattle.molecules.specs.Below.{every_below}
 use Rattle.molecules.specs.Atoms.{is_atom, is_wall}
 use Rattle.molecules.specs.Places.{under, GoalPlace, is_place}
-use Rattle.molecules.proofs.Below.{every_below_lem, every_below_from, every_below_not, every_below_more}
+use Rattle.molecules.proofs.Below.{every_below_lem, every_below_from}
 
 -- m lies on b with its first cell on `place`
 module _ (b m : Shape) (place : ℕ) where
@@ -15,30 +14,12 @@ module _ (b m : Shape) (place : ℕ) where
   abbrev lies : ℕ → Bool
   lies i = not (is_atom (cell_at m i)) || not (is_wall (under b m place i))
 
-  -- the cells before i lie so
-  abbrev pub LiesBefore : ℕ → Type 0
-  LiesBefore i = every_below i (λ k. lies k) ≡ true
-
   -- where there is no atom, or no wall
   no_atom_lies : (i : ℕ) → is_atom (cell_at m i) ≡ false → lies i ≡ true
   no_atom_lies i e = or_left _ _ (not_from_false _ e)
 
   no_wall_lies : (i : ℕ) → is_wall (under b m place i) ≡ false → lies i ≡ true
   no_wall_lies i e = or_right _ _ (not_from_false _ e)
-
-  -- the steps of a walk over the cells of the molecule
-  pub lies_no_atom : (i : ℕ) → LiesBefore i → is_atom (cell_at m i) ≡ false → LiesBefore (i + 1)
-  lies_no_atom i before e = every_below_more i (λ k. lies k) before (no_atom_lies i e)
-
-  pub lies_no_wall : (i : ℕ) → LiesBefore i → is_wall (under b m place i) ≡ false → LiesBefore (i + 1)
-  lies_no_wall i before e = every_below_more i (λ k. lies k) before (no_wall_lies i e)
-
-  pub lies_not : (i : ℕ) → i < length m.cells → is_atom (cell_at m i) ≡ true → is_wall (under b m place i) ≡ true → is_place b m place ≡ false
-  lies_not i h atom wall =
-      every_below_not (length m.cells) (λ k. lies k) i h (or_from _ _ (not_from_true _ atom) (not_from_true _ wall))
-
-  pub lies_all : (i : ℕ) → length m.cells ≡ i → LiesBefore i → is_place b m place ≡ true
-  lies_all i all before = ap (λ n. every_below n (λ k. lies k)) all ∙ before
 
   -- an atom is one of the molecule's cells
   atom_inside : (i : ℕ) → is_atom (cell_at m i) ≡ true → i < length m.cells

@@ -1,6 +1,7 @@
 pub mod Below
 pub mod Counts
 pub mod Edges
+pub mod Ranges
 pub mod Alike
 pub mod Walls
 pub mod Overlays

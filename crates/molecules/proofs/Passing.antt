@@ -1,24 +1,23 @@
 -- The numbers below a bound that pass a test, and the list of goal places. Assumes nothing.
-use Rattle.std.proofs.Common.{◌≡◌, ℕ, zero, suc, ◌+◌, ◌<◌, ◌≤◌, Bool, true, false, cond, List, [], ◌∷◌, ◌++◌, length, take, set, Contains, filter, sym, ap, ◌∙◌, subst, append-nil, add-one, arith, length-set}
+use Rattle.std.proofs.Common.{◌≡◌, ℕ, zero, suc, ◌+◌, ◌<◌, Bool, true, false, cond, List, [], ◌∷◌, ◌++◌, Contains, filter, sym, ap, ◌∙◌, subst, append-nil, add-one, ⊎_elim, arith}
 use Rattle.std.specs.List.{All, range_with_len}
-use Rattle.std.proofs.lemmas.List.FromFn.{length-range_with_len, get_or-range_with_len, map-range_with_len_more}
+use Rattle.std.proofs.lemmas.List.FromFn.{length-range_with_len}
 use Rattle.std.proofs.lemmas.List.Elements.{All-from_get_or, All-contains, All-filter, filter-append, filter_passes, Contains-append_left, Contains-push}
-use Rattle.std.proofs.lemmas.List.{map-id, take_more_set}
-use Rattle.std.proofs.lemmas.Bool.{cond-true, cond-false}
+use Rattle.std.proofs.lemmas.Bool.{cases_lt, cond-true, cond-false}
 use Rattle.pictures.specs.Pictures.{Shape}
 use Rattle.molecules.specs.Places.{is_place, ListsExactly}
-use Rattle.molecules.proofs.Below.{upto}
+use Rattle.molecules.proofs.Below.{below_at, below_more}
 use Rattle.molecules.proofs.Fitting.{place_is_goal, goal_is_place}
-
--- one number more
-counting_more : (n : ℕ) → range_with_len 0 (n + 1) ≡ range_with_len 0 n ++ (n ∷ [])
-counting_more n = sym (map-id _) ∙ map-range_with_len_more (λ k. k) 0 n n (omega arith) ∙ ap (λ l. l ++ (n ∷ [])) (map-id _)
 
 -- each counted number is below the bound
 counting_below : (n : ℕ) → All (λ k. k < n) (range_with_len 0 n)
 counting_below n =
     All-from_get_or (λ k. k < n) (range_with_len 0 n) 0
-    (λ i h. let inside : i < n = omega (arith, length-range_with_len 0 n) in omega (arith, get_or-range_with_len 0 n i 0 inside))
+    (λ i h. let inside : i < n = omega (arith, length-range_with_len 0 n) in omega (arith, below_at n i 0 inside))
+
+-- what holds of a number, and of those below it, holds of those below the next
+upto : (P : ℕ → Type 0) (n i : ℕ) → i < suc n → (i < n → P i) → P n → P i
+upto P n i h less here = ⊎_elim less (λ past. let same : n ≡ i = omega arith in subst P same here) (cases_lt i n)
 
 module _ (test : ℕ → Bool) where
   -- the numbers below n that pass
@@ -27,7 +26,7 @@ module _ (test : ℕ → Bool) where
 
   -- one number more, which passes or does not
   passing_more : (n : ℕ) → passing (n + 1) ≡ passing n ++ cond (test n) (n ∷ []) []
-  passing_more n = ap (filter test) (counting_more n) ∙ filter-append test (range_with_len 0 n) (n ∷ [])
+  passing_more n = ap (filter test) (below_more n) ∙ filter-append test (range_with_len 0 n) (n ∷ [])
 
   pub passing_one : (n : ℕ) → test n ≡ true → passing (n + 1) ≡ passing n ++ (n ∷ [])
   passing_one n e = passing_more n ∙ ap (λ l. passing n ++ l) (cond-true _ _ _ e)
@@ -50,21 +49,6 @@ module _ (test : ℕ → Bool) where
     All-contains (λ k. k < n) (passing n) p (All-filter test (λ k. k < n) (range_with_len 0 n) (counting_below n)) has,
     All-contains (λ k. test k ≡ true) (passing n) p (filter_passes test (range_with_len 0 n)) has,
   )
-
-  -- the first `count` of 256 cells hold the numbers below n that pass
-  abbrev pub Listed : List ℕ → ℕ → ℕ → Type 0
-  Listed cells count n = (take count cells ≡ passing n) × (count ≤ n) × (length cells ≡ 256)
-
-  -- one number more is put behind them, or is not
-  pub listed_one : (cells : List ℕ) (count n : ℕ) → Listed cells count n → n < 256 → test n ≡ true → Listed (set cells count n) (count + 1) (n + 1)
-  listed_one cells count n l h e = (
-    take_more_set cells count n (omega arith) ∙ ap (λ k. k ++ (n ∷ [])) l.0 ∙ sym (passing_one n e),
-    omega arith,
-    length-set cells count n ∙ l.2,
-  )
-
-  pub listed_none : (cells : List ℕ) (count n : ℕ) → Listed cells count n → test n ≡ false → Listed cells count (n + 1)
-  listed_none cells count n l e = (l.0 ∙ sym (passing_none n e), omega arith, l.2)
 
 -- the list has the goal places, and nothing else
 pub lists_exactly : (b m : Shape) → ListsExactly b m

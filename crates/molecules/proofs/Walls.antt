@@ -1,21 +1,13 @@
 -- A picture without walls stays so with a row in which no character draws a wall. Assumes nothing.
 use Rattle.std.proofs.Common.{◌≡◌, ℕ, zero, suc, ◌+◌, Bool, true, false, cond, eqb, List, [], ◌∷◌, ◌++◌, get_or, Some, None, Option, sym, refl, subst, arith}
-use Rattle.std.specs.List.{IsAnyAnswer}
-use Rattle.std.proofs.lemmas.List.Elements.{contains_decides}
 use Rattle.std.proofs.lemmas.Bool.{eqb-false, or_parts}
-use Rattle.std.proofs.lemmas.Bool.Decides.{nat_tests, same_from_decides, Decides-by_or, Decides-eqb}
+use Rattle.std.proofs.lemmas.Bool.Decides.{nat_tests}
 use Rattle.pictures.specs.declared.cell.Cell.{Cell}
 use Rattle.pictures.specs.declared.cell.Cell.TheVariants.{Wall, Free, Atom}
 use Rattle.pictures.specs.Cells.{cell_of, cells_of}
 use Rattle.pictures.specs.Pictures.{Shape, shape_of, with_row}
-use Rattle.pictures.proofs.Drawn.{never, parts}
+use Rattle.pictures.proofs.Drawn.{parts}
 use Rattle.molecules.specs.Atoms.{is_wall, Unwalled, any_wall}
-
--- `contains` says whether a character draws a wall
-pub wall_found : (row : List ℕ) (r : Bool) → IsAnyAnswer (λ y t. eqb y 35 ≡ t) row r → r ≡ any_wall row
-wall_found row r found =
-    same_from_decides r (any_wall row) (contains_decides eqb Decides-eqb row 35 r found)
-    (Decides-by_or (λ c. eqb c 35) (λ c. c ≡ 35) any_wall (λ c. Decides-eqb c 35) refl (λ _ _. refl) row)
 
 -- no cell is a wall
 abbrev Open : List Cell → Type 0
@@ -50,8 +42,8 @@ open_row (c ∷ cs) xs e none =
 -- the cells of a picture with one row more
 longer : (s t : Shape) (b : Bool) (o : Option (List Cell)) → ◌≡◌ {A = Option Shape} (cond b (elim o [ Some xs ↦ Some (shape_of s.width (s.height + 1) (s.cells ++ xs)) | None ↦ None ]) None) (Some t) → (xs : List Cell) × (o ≡ Some xs) × (s.cells ++ xs ≡ t.cells)
 longer s t true (Some xs) e = (xs, refl, cc)
-longer s t true None e = absurd (never t e)
-longer s t false o e = absurd (never t e)
+longer s t true None e = cc
+longer s t false o e = cc
 
 -- they are no walls
 pub unwalled_row : (s t : Shape) (row : List ℕ) → Unwalled s → any_wall row ≡ false → Some t ≡ with_row s row → Unwalled t

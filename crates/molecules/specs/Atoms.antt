@@ -1,10 +1,11 @@
 -- Walls and atoms of a picture. Assumes nothing.
-use Rattle.std.specs.Prelude.{◌≡◌, ℕ, ◌+◌, ◌-◌, Bool, true, false, cond, ◌&&◌, ◌||◌, List, [], ◌∷◌, None, count_by, Option, ◌==◌, nat_eq, slice_index_or}
+use Rattle.std.specs.Prelude.{◌≡◌, ℕ, ◌-◌, Bool, true, false, cond, ◌&&◌, List, None, count_by, Option, ◌==◌, nat_eq, slice_index_or}
+use Rattle.std.specs.List.{list_all, list_any, range_with_len}
 use Rattle.grid.specs.Grid.{at}
 use Rattle.pictures.specs.declared.cell.Cell.{Cell}
 use Rattle.pictures.specs.declared.cell.Cell.TheVariants.{Wall, Free, Atom}
 use Rattle.pictures.specs.Pictures.{Shape, cell_at, with_row}
-use Rattle.molecules.specs.Below.{some_below, every_below}
+use Rattle.molecules.specs.Below.{some_below}
 
 abbrev pub is_wall : Cell → Bool
 is_wall Wall = true
@@ -28,8 +29,7 @@ Unwalled s = (i : ℕ) → is_wall (slice_index_or s.cells i Free) ≡ false
 
 -- whether a character draws a wall
 abbrev pub any_wall : List ℕ → Bool
-any_wall [] = false
-any_wall (c ∷ cs) = c == 35 || any_wall cs
+any_wall row = list_any (λ c. c == 35) row
 
 -- one row more, of `.` and letters
 abbrev pub with_want : Shape → List ℕ → Option Shape
@@ -44,18 +44,22 @@ label_count s label = count_by (has_label label) s.cells
 
 -- each letter A to Z is as often a label in one picture as in the other
 abbrev pub same_labels : Shape → Shape → Bool
-same_labels b m = every_below 26 (λ i. nat_eq (label_count b (65 + i)) (label_count m (65 + i)))
+same_labels b m = list_all (λ label. nat_eq (label_count b label) (label_count m label)) (range_with_len 65 26)
 
 -- the same of every label, which is a letter
 abbrev pub SameLabels : Shape → Shape → Type 0
 SameLabels b m = (label : ℕ) → label_count b label ≡ label_count m label
 
+-- an atom is at a row and a column
+abbrev pub atom_at : Shape → ℕ → ℕ → Bool
+atom_at s r c = is_atom (cell_at s (at s.width r c))
+
 -- a row, a column holds an atom
 abbrev pub row_holds : Shape → ℕ → Bool
-row_holds s r = some_below s.width (λ c. is_atom (cell_at s (at s.width r c)))
+row_holds s r = some_below s.width (λ c. atom_at s r c)
 
 abbrev pub column_holds : Shape → ℕ → Bool
-column_holds s c = some_below s.height (λ r. is_atom (cell_at s (at s.width r c)))
+column_holds s c = some_below s.height (λ r. atom_at s r c)
 
 -- each edge row and each edge column holds an atom
 abbrev pub edged : Shape → Bool

@@ -3,6 +3,7 @@
 
 mod labels;
 mod molecule;
+mod overlay;
 mod places;
 
 pub use labels::count_atoms;

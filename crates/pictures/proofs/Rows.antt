@@ -6,7 +6,7 @@ use Rattle.std.proofs.lemmas.Bool.{and_from, cond-true, eq-eqb, lt-ltb}
 use Rattle.pictures.specs.declared.cell.Cell.{Cell}
 use Rattle.pictures.specs.Cells.{cell_of, cells_of, Lettered}
 use Rattle.pictures.specs.Pictures.{Shape, shape_of, with_row}
-use Rattle.pictures.proofs.Drawn.{onto, before, never, lettered_append, symbols_of_cells}
+use Rattle.pictures.proofs.Drawn.{onto, before, lettered_append, symbols_of_cells}
 
 -- drawn cells behind others
 abbrev pub behind : List Cell → Option (List Cell) → Option (List Cell)
@@ -53,7 +53,7 @@ behind_lettered : (xs ys : List Cell) (row : List ℕ) → Lettered xs → (o : 
 behind_lettered xs ys row ls (Some zs) q e =
     let same : xs ++ zs ≡ ys = cc in
     subst Lettered same (lettered_append xs zs ls (symbols_of_cells row zs q).2)
-behind_lettered xs ys row ls None q e = absurd (never ys e)
+behind_lettered xs ys row ls None q e = cc
 
 -- a row more leaves the cells lettered
 pub row_lettered : (xs ys : List Cell) (row : List ℕ) → Lettered xs → Some ys ≡ behind xs (cells_of row) → Lettered ys

@@ -8,10 +8,6 @@ use Rattle.grid.proofs.Laws.{neighbour_inside}
 use Rattle.slides.specs.Slides.{next, rest, slid, Passes, stays, goes, Slides, SlidesExactly}
 use Rattle.slides.proofs.Ahead.{ahead, ahead_few, ahead_less, from_inside}
 
--- none is not some
-never : (n : ℕ) → None ≡ Some n → ⊥
-never n e = let z : ◌≡◌ {A = ℕ} 0 1 = cc in omega arith
-
 module _ (w h : ℕ) (blocked : ℕ → Bool) (d : Direction) where
   -- one cannot step on
   abbrev Stops : ℕ → Type 0
@@ -28,12 +24,12 @@ module _ (w h : ℕ) (blocked : ℕ → Bool) (d : Direction) where
   next_some c n e = by (neighbour w h c d) refl e
     where
       by_blocked : (m : ℕ) (b : Bool) → neighbour w h c d ≡ Some m → blocked m ≡ b → ◌≡◌ {A = Option ℕ} (cond b None (Some m)) (Some n) → (neighbour w h c d ≡ Some n) × (blocked n ≡ false)
-      by_blocked m true at shut e = absurd (never n e)
+      by_blocked m true at shut e = cc
       by_blocked m false at free e = let same : m ≡ n = cc in (at ∙ ap Some same, sym (ap blocked same) ∙ free)
 
       by : (o : Option ℕ) → neighbour w h c d ≡ o → ◌≡◌ {A = Option ℕ} (elim o [ Some m ↦ cond (blocked m) None (Some m) | None ↦ None ]) (Some n) → (neighbour w h c d ≡ Some n) × (blocked n ≡ false)
       by (Some m) at e = by_blocked m (blocked m) at refl e
-      by None at e = absurd (never n e)
+      by None at e = cc
 
   next_free : (c n : ℕ) → neighbour w h c d ≡ Some n → blocked n ≡ false → next w h blocked d c ≡ Some n
   next_free c n at free = cc
@@ -43,7 +39,7 @@ module _ (w h : ℕ) (blocked : ℕ → Bool) (d : Direction) where
     where
       by : (b : Bool) → blocked n ≡ b → b ≡ true
       by true shut = refl
-      by false free = absurd (never n (sym e ∙ next_free c n at free))
+      by false free = let on = next_free c n at free in cc
 
   next_stop : (c : ℕ) → Stops c → next w h blocked d c ≡ None
   next_stop c stop = by (next w h blocked d c) refl
@@ -142,7 +138,7 @@ module _ (w h : ℕ) (blocked : ℕ → Bool) (d : Direction) where
   slid_slides c t e = by (rest w h blocked d (w + h) c) (eqb (rest w h blocked d (w + h) c) c) (settles c) refl e
     where
       by : (r : ℕ) (b : Bool) → Settles c r → eqb r c ≡ b → ◌≡◌ {A = Option ℕ} (cond b None (Some r)) (Some t) → Slides w h blocked d c t
-      by r true s back e = absurd (never t e)
+      by r true s back e = cc
       by r false s away e =
           let same : r ≡ t = cc in
           subst (Slides w h blocked d c) same (record {

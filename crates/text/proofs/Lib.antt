@@ -7,3 +7,4 @@ pub mod Texts
 pub mod Scanning
 pub mod Reading
 pub mod Taking
+pub mod Trying

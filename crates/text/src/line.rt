@@ -10,7 +10,7 @@ const MOST_BYTES: usize = 4096;
 ///
 /// It goes from the place `at` to the end of `text`, which is the whole text up to the end of the line, so that
 /// every place in it is a place in the text.
-#[derive(Clone, Copy)]
+#[derive(Clone, Copy, Debug, PartialEq, Eq)]
 pub struct Line<'a> {
     pub text: &'a [u8],
     pub at: usize,
@@ -19,32 +19,23 @@ pub struct Line<'a> {
 fn is_text_byte(b: u8) -> bool
     ensures { result ≡ text_byte b }
 {
-    match b {
-        b'\n' | b' '..=b'~' => true,
-        _ => false,
-    }
+    matches!(b, b'\n' | b' '..=b'~')
 }
 
 fn all_text(text: &[u8]) -> bool
     ensures { result ≡ all_text text.now }
 {
-    for b in text {
-        if !is_text_byte(*b) {
-            return false;
-        }
-    }
-    true
+    text.iter().all(|b| is_text_byte(*b))
 }
 
 /// Whether the bytes are the text of a level at all: 1 to 4,096 printable bytes and line ends, a line end last.
 pub fn is_text(text: &[u8]) -> bool
     ensures { result ≡ is_text text.now }
 {
-    let n = text.len();
-    if n == 0 || n > MOST_BYTES || text[n - 1] != b'\n' {
-        return false;
+    match text {
+        [.., b'\n'] => text.len() <= MOST_BYTES && all_text(text),
+        _ => false,
     }
-    all_text(text)
 }
 
 /// The bytes of a line: all but the line end.
@@ -62,15 +53,9 @@ impl ByteClass for InLine {
 pub fn next_line<'a>(text: &'a [u8], from: usize) -> Option<Line<'a>>
     ensures { told result ≡ line_at text.now from }
 {
-    if from >= text.len() {
-        return None;
-    }
     let end = run_end::<InLine>(text, from);
-    if end == text.len() {
-        return None;
-    }
-    Some(Line {
-        text: &text[0..end],
+    (end < text.len()).then(|| Line {
+        text: &text[..end],
         at: from,
     })
 }

@@ -8,7 +8,7 @@ fn digit_of(b: u8) -> Option<u32>
     ensures { result ≡ digit b }
 {
     match b {
-        b'0'..=b'9' => Some((b - b'0') as u32),
+        b'0'..=b'9' => Some(u32::from(b - b'0')),
         _ => None,
     }
 }
@@ -16,25 +16,18 @@ fn digit_of(b: u8) -> Option<u32>
 fn with_digit(n: u32, b: u8) -> Option<u32>
     ensures { result ≡ onto n (digit b) }
 {
-    let d = digit_of(b)?;
-    if n < MOST_BEFORE_LAST {
-        Some(n * 10 + d)
-    } else {
-        None
-    }
+    let digit = digit_of(b)?;
+    (n < MOST_BEFORE_LAST).then(|| n * 10 + digit)
 }
 
 fn read_digits(text: &[u8]) -> Option<u32>
     ensures { result ≡ digits_after 0 text.now }
 {
-    let mut n = 0;
-    for b in text {
-        n = with_digit(n, *b)?;
-    }
-    Some(n)
+    text.iter().try_fold(0, |n, b| with_digit(n, *b))
 }
 
 // The number that a text spells in one to seven digits with no leading zero.
+#[tactic(auto, using(crate::proofs::Numbers::numbers_read_back))]
 pub(crate) fn read_number(text: &[u8]) -> Option<u32>
     ensures spelled { result ≡ read_number text.now }
     ensures back { NumbersReadBack }

@@ -7,7 +7,7 @@ use super::number::read_number;
 use super::run::{ByteClass, run_end};
 
 /// A piece of a line: a bracket, a number of one to seven digits without leading zero, or any other word.
-#[derive(Clone, Copy)]
+#[derive(Clone, Copy, Debug, PartialEq, Eq)]
 pub enum Token<'a> {
     Open,
     Close,
@@ -16,7 +16,7 @@ pub enum Token<'a> {
 }
 
 /// A piece with its place in the text.
-#[derive(Clone, Copy)]
+#[derive(Clone, Copy, Debug, PartialEq, Eq)]
 pub struct Piece<'a> {
     pub token: Token<'a>,
     pub at: usize,
@@ -29,10 +29,7 @@ impl ByteClass for Plain {
     ghost has = { plain };
 
     fn has(b: u8) -> bool {
-        match b {
-            b' ' | b'(' | b')' => false,
-            _ => true,
-        }
+        !matches!(b, b' ' | b'(' | b')')
     }
 }
 
@@ -46,18 +43,18 @@ fn token_of<'a>(run: &'a [u8]) -> Token<'a>
 }
 
 impl<'a> Line<'a> {
-    // How many bytes are left.
-    fn len(self) -> usize
-        ensures { result ≡ length (bytes self.entry) }
+    /// The bytes that are left.
+    pub fn as_bytes(self) -> &'a [u8]
+        ensures { result.now ≡ bytes self.entry }
     {
-        self.text.len().saturating_sub(self.at)
+        self.text.get(self.at..).unwrap_or(b"")
     }
 
     /// Whether nothing is left.
     pub fn is_empty(self) -> bool
         ensures { result ≡ (length (bytes self.entry) == 0) }
     {
-        self.len() == 0
+        self.as_bytes().is_empty()
     }
 
     /// The piece at the front, and what is left after it. There is none at the end and at a blank.
@@ -65,12 +62,9 @@ impl<'a> Line<'a> {
         ensures says { told_piece result ≡ piece_in (bytes self.entry) }
         ensures lies { IfSome result (λ x. (x.0.at ≡ self.entry.at) × Within self.entry x.1) }
     {
-        let text = self.text;
-        let at = self.at;
-        if at >= text.len() {
-            return None;
-        }
-        let (token, end) = match text[at] {
+        let Line { text, at } = self;
+        let byte = *text.get(at)?;
+        let (token, end) = match byte {
             b'(' => (Token::Open, at + 1),
             b')' => (Token::Close, at + 1),
             b' ' => return None,

@@ -14,9 +14,6 @@ pub fn run_end<C: ByteClass>(text: &[u8], from: usize) -> usize
     ensures ends { result ≡ from + prefix_len C.has (drop from text.now) }
     ensures inside { from ≤ length text.now → result ≤ length text.now }
 {
-    let mut at = from;
-    while at < text.len() && C::has(text[at]) {
-        at += 1;
-    }
-    at
+    let run = text.iter().skip(from).take_while(|b| C::has(**b));
+    from + run.count()
 }

@@ -1,10 +1,10 @@
 -- Positions and their tiles: packing and unpacking undo each other, and what one written cell does. Assumes nothing.
 use Rattle.std.proofs.Common.{◌≡◌, ℕ, zero, suc, ◌+◌, ◌*◌, ◌/◌, ◌%◌, ◌^◌, ◌<◌, ◌≤◌, ◌↔◌, List, [], ◌∷◌, ◌++◌, length, get_or, take, set, sym, refl, ap, ◌∙◌, mul_assoc, div-lt_iff_lt-mul, mul_left_comm, arith}
-use Rattle.std.specs.List.{AllByRecursion as All}
+use Rattle.std.specs.List.{All}
 use native.Mathlib.Nat.{pow-succ', div-div-eq-div-mul}
 use lib.Bits.{bit_and}
 use Rattle.std.proofs.lemmas.Nat.{pow-add, pow_pos, and_mask, shl_whole, mul-le}
-use Rattle.std.proofs.ByRecursion.{All-set, All-get_or}
+use Rattle.std.proofs.lemmas.List.Elements.{All-nil, All-cons, All-head, All-tail, All-set, All-get_or}
 use Rattle.std.proofs.lemmas.List.{length-set, get_or-set_other, get_or-take}
 use Rattle.tiles.specs.Board.{packed, unpacked, cells, swapped}
 
@@ -17,8 +17,8 @@ length_unpacked zero p = refl
 length_unpacked (suc n) p = ap suc (length_unpacked n (p / 16))
 
 pub small_unpacked : (n p : ℕ) → All Small (unpacked n p)
-small_unpacked zero p = tt
-small_unpacked (suc n) p = (omega arith, small_unpacked n (p / 16))
+small_unpacked zero p = All-nil Small
+small_unpacked (suc n) p = All-cons Small _ _ (omega arith) (small_unpacked n (p / 16))
 
 pub get_or_unpacked : (n p i : ℕ) → i < n → get_or (unpacked n p) i 0 ≡ p / 16 ^ i % 16
 get_or_unpacked zero p i h = absurd (omega arith)
@@ -42,15 +42,17 @@ packed_unpacked (suc n) p h =
 pub unpacked_packed : (ts : List ℕ) → All Small ts → unpacked (length ts) (packed ts) ≡ ts
 unpacked_packed [] small = refl
 unpacked_packed (t ∷ ts) small =
-    let first : (t + 16 * packed ts) % 16 ≡ t = omega (arith, small.0) in
-    let rest : (t + 16 * packed ts) / 16 ≡ packed ts = omega (arith, small.0) in
+    let fits : t < 16 = All-head Small t ts small in
+    let first : (t + 16 * packed ts) % 16 ≡ t = omega arith in
+    let rest : (t + 16 * packed ts) / 16 ≡ packed ts = omega arith in
     ap (λ k. k ∷ unpacked (length ts) ((t + 16 * packed ts) / 16)) first
     ∙ ap (λ k. t ∷ unpacked (length ts) k) rest
-    ∙ ap (λ us. t ∷ us) (unpacked_packed ts small.1)
+    ∙ ap (λ us. t ∷ us) (unpacked_packed ts (All-tail Small t ts small))
 
 pub packed_lt : (ts : List ℕ) → All Small ts → packed ts < 16 ^ length ts
 packed_lt [] small = omega arith
-packed_lt (t ∷ ts) small = omega (arith, small.0, packed_lt ts small.1, pow-succ' 16 (length ts))
+packed_lt (t ∷ ts) small =
+    omega (arith, All-head Small t ts small, packed_lt ts (All-tail Small t ts small), pow-succ' 16 (length ts))
 
 -- one cell up is sixteen times as much
 up : (v i : ℕ) → v * 16 ^ suc i ≡ 16 * (v * 16 ^ i)

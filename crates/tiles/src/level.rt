@@ -10,7 +10,7 @@ pub use moves::is_side;
 /// A sliding-tile level: 2 to 4 cells wide and high, each tile number on exactly one cell.
 ///
 /// A position is one number with four bits a cell in reading order, the first cell lowest, 0 for the blank.
-#[derive(Clone, Copy)]
+#[derive(Clone, Copy, Debug, PartialEq, Eq)]
 pub struct TileLevel {
     grid: Grid,
     start: u64,

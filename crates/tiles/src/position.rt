@@ -1,5 +1,5 @@
 //! Positions: one number with four bits a cell, the first cell lowest.
-ghost use Rattle.std.specs.Prelude.{◌≡◌, ◌<◌, ◌≤◌, Decides, count_by, ◌≢◌, nat_eq, slice_index};
+ghost use Rattle.std.specs.Prelude.{◌≡◌, ◌<◌, ◌≤◌, ◌↔◌, IsTrue, count_by, ◌≢◌, nat_eq, slice_index};
 ghost use Rattle.tiles.specs.Board.{packed, unpacked, cells, swapped, Numbered};
 
 /// How many bits of a position a cell takes.
@@ -78,7 +78,7 @@ fn count(position: u64, used: usize, tile: usize) -> usize
 /// Whether each number below `used` is on exactly one of the first `used` cells, and the other cells are 0.
 pub(crate) fn is_numbered(position: u64, used: usize) -> bool
     requires { (0 < used) × (used ≤ 16) }
-    ensures { Decides result (Numbered used position) }
+    ensures { IsTrue result ↔ Numbered used position }
 {
     // With the last used cell at the bottom, what is left fits one cell if no cell past it is used.
     position >> (BITS_PER_CELL * (used - 1)) <= CELL_MASK

@@ -1,9 +1,9 @@
 -- A row's numbers packed one by one, and a row packed behind the rows before it. Assumes nothing.
 use Rattle.std.proofs.Common.{◌≡◌, ℕ, suc, ◌+◌, ◌-◌, ◌*◌, ◌%◌, ◌^◌, ◌<◌, ◌≤◌, cond, ltb, List, [], ◌∷◌, ◌++◌, length, Some, None, Option, sym, refl, ap, ◌∙◌, mul_assoc, mul_comm, mul-add, mul_left_comm, add-one, arith}
-use Rattle.std.specs.List.{AllByRecursion as All}
+use Rattle.std.specs.List.{All}
 use native.Mathlib.Nat.{pow-succ', pow-le-pow_right}
 use Rattle.std.proofs.lemmas.Nat.{shl_whole}
-use Rattle.std.proofs.ByRecursion.{All-append}
+use Rattle.std.proofs.lemmas.List.Elements.{All-append, All-cons, All-nil}
 use Rattle.std.proofs.lemmas.List.{length-append}
 use Rattle.std.proofs.lemmas.Bool.{cond-true, cond-false, lt-ltb, le-ltb}
 use Rattle.forms.specs.Forms.{◌then◌, number_in}
@@ -84,5 +84,5 @@ pub record AddedCell (p i v : ℕ) : Type 0 where
 
 pub added_cell : (p i v : ℕ) → p < 16 ^ i → i < 16 → Small v → AddedCell p i v
 added_cell p i v below room small =
-    let one = added p i 1 v (v ∷ []) below (omega arith) refl (small, tt) (omega arith) in
+    let one = added p i 1 v (v ∷ []) below (omega arith) refl (All-cons Small v [] small (All-nil Small)) (omega arith) in
     record { fits = one.fits; sum = ap (λ k. p + k) (shl_cell v i small room); below = one.below }

@@ -2,6 +2,7 @@
 use Rattle.std.proofs.Common.{◌≡◌, ℕ, zero, suc, ◌+◌, ◌-◌, ◌*◌, ◌^◌, ◌<◌, ◌≤◌, Bool, true, false, cond, eqb, List, [], ◌∷◌, ◌++◌, length, take, drop, Ok, Err, Result, sym, refl, ap, ◌∙◌, subst, append_assoc, append-nil, mul-suc, arith}
 use Rattle.std.specs.List.{AllByRecursion as All}
 use Rattle.std.proofs.ByRecursion.{All-append, All-take, All-drop, All-weaker}
+use Rattle.std.proofs.lemmas.List.Elements.{All-from_recursion}
 use Rattle.std.proofs.lemmas.List.{length-append, length-take, length-take-le, length-drop, take-append-drop, take_at, take_all, drop_at}
 use Rattle.std.proofs.lemmas.Bool.{cond-true, cond-false, ne_eqb}
 use Rattle.refusals.specs.declared.Refusal.{Refusal}
@@ -152,7 +153,7 @@ only_head n (l ∷ ls) t is =
 written : (w h : ℕ) (us : List ℕ) → Tiled w h us → Valid (level w h us) × (join_lines (level_lines w h us) ≡ level_text (level w h us))
 written w h us tiled =
     let few = few_cells w h tiled.sized.wide.1 tiled.sized.high.1 in
-    let small : All Small us = All-weaker (λ k. k < w * h) Small (λ k below. omega arith) us tiled.below in
+    let small = All-from_recursion Small us (All-weaker (λ k. k < w * h) Small (λ k below. omega arith) us tiled.below) in
     let back : unpacked (w * h) (packed us) ≡ us = ap (λ k. unpacked k (packed us)) (sym tiled.long) ∙ unpacked_packed us small in
     let fits : packed us < 16 ^ (w * h) = omega (arith, packed_lt us small, ap (λ k. 16 ^ k) tiled.long) in (
       (valid_decides w h (packed us) tiled.sized.wide tiled.sized.high fits).0 (ap (each_once (w * h)) back ∙ tiled.once),

@@ -14,7 +14,7 @@ use tiles::TileLevel;
 use ways::Kind;
 
 /// A tile level, as ways see it.
-#[derive(Clone, Copy)]
+#[derive(Clone, Copy, Debug)]
 pub struct TileKind(pub TileLevel);
 
 // Writes the line `(move DIRECTION)`.

@@ -1,12 +1,13 @@
-ghost use Rattle.std.specs.Prelude.{◌≡◌, ◌<◌, [], Decides};
+ghost use Rattle.std.specs.Prelude.{◌≡◌, [], Decides};
 ghost use Rattle.pictures.specs.Pictures.{shape_of, shape, blank};
-ghost use Rattle.molecules.specs.Atoms.{any_wall, with_want, row_holds, column_holds, edged, same_labels, SameLabels};
+ghost use Rattle.molecules.specs.Atoms.{any_wall, with_want, atom_at, row_holds, column_holds, edged, same_labels, SameLabels};
 ghost use Rattle.molecules.specs.Molecules.{wanted, told};
 ghost use Rattle.molecules.specs.Places.{wants, WantsExactly};
 
 use super::Molecule;
-use crate::labels::{count_label, has_label, is_atom};
-use pictures::Picture;
+use crate::labels::{count_label, is_atom};
+use crate::overlay::Overlay;
+use pictures::{Cell, Picture};
 
 /// The character that draws a wall.
 const WALL: u8 = b'#';
@@ -47,32 +48,29 @@ impl Molecule {
         self.picture
     }
 
+    // Whether an atom is at a row and a column.
+    fn has_atom(&self, row: u8, column: u8) -> bool
+        ensures { result ≡ atom_at (wanted self.now) row column }
+    {
+        let width = usize::from(self.picture.grid().width);
+        let place = usize::from(row) * width + usize::from(column);
+        is_atom(self.picture.cell(place))
+    }
+
     // Whether a row holds an atom.
-    fn row_holds(&self, row: usize) -> bool
-        requires { row < 16 }
+    fn row_holds(&self, row: u8) -> bool
         ensures { result ≡ row_holds (wanted self.now) row }
     {
-        let width = self.picture.grid().width as usize;
-        for column in 0..width {
-            if is_atom(self.picture.cell(row * width + column)) {
-                return true;
-            }
-        }
-        false
+        let width = self.picture.grid().width;
+        (0..width).any(|column| self.has_atom(row, column))
     }
 
     // Whether a column holds an atom.
-    fn column_holds(&self, column: usize) -> bool
-        requires { column < 16 }
+    fn column_holds(&self, column: u8) -> bool
         ensures { result ≡ column_holds (wanted self.now) column }
     {
-        let size = self.picture.grid();
-        for row in 0..size.height as usize {
-            if is_atom(self.picture.cell(row * size.width as usize + column)) {
-                return true;
-            }
-        }
-        false
+        let height = self.picture.grid().height;
+        (0..height).any(|row| self.has_atom(row, column))
     }
 
     /// Whether each edge row and each edge column holds an atom.
@@ -82,9 +80,9 @@ impl Molecule {
         let size = self.picture.grid();
         size.height > 0
             && self.row_holds(0)
-            && self.row_holds(size.height as usize - 1)
+            && self.row_holds(size.height - 1)
             && self.column_holds(0)
-            && self.column_holds(size.width as usize - 1)
+            && self.column_holds(size.width - 1)
     }
 
     /// Whether each label is as often in the molecule as on the board.
@@ -92,12 +90,7 @@ impl Molecule {
         ensures says { result ≡ same_labels (shape board.now) (wanted self.now) }
         ensures decides { Decides result (SameLabels (shape board.now) (wanted self.now)) }
     {
-        for label in b'A'..=b'Z' {
-            if count_label(board, label) != count_label(&self.picture, label) {
-                return false;
-            }
-        }
-        true
+        (b'A'..=b'Z').all(|label| count_label(board, label) == count_label(&self.picture, label))
     }
 
     /// Whether the molecule, with its first cell on `place` of the board, wants an atom of this label on `cell`.
@@ -105,18 +98,12 @@ impl Molecule {
         ensures says { result ≡ wants (shape board.now) (wanted self.now) place cell label }
         ensures exactly { WantsExactly (shape board.now) (wanted self.now) place cell label }
     {
-        let width = board.grid().width;
-        let (top, left) = (place / width, place % width);
-        let (row, column) = (cell / width, cell % width);
-        if row < top || column < left {
-            return false;
-        }
-        let size = self.picture.grid();
-        if column - left >= size.width {
-            return false;
-        }
-        let over = (row - top) as usize * size.width as usize + (column - left) as usize;
-        has_label(self.picture.cell(over), label)
+        let overlay = Overlay {
+            board,
+            molecule: &self.picture,
+            place,
+        };
+        overlay.over(cell) == Cell::Atom(label)
     }
 }
 

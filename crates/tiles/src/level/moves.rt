@@ -1,4 +1,4 @@
-ghost use Rattle.std.specs.Prelude.{◌≡◌, ◌*◌, ◌<◌, ◌≤◌, take, Decides, MatchOption};
+ghost use Rattle.std.specs.Prelude.{◌≡◌, ◌*◌, ◌<◌, ◌≤◌, ◌↔◌, take, IsTrue, MatchOption};
 ghost use Rattle.puzzle.specs.Game.{Played};
 ghost use Rattle.tiles.specs.Board.{cells, blank_of, home};
 ghost use Rattle.tiles.specs.Level.{tiles, tiles_of, Valid, side, moved, finished};
@@ -16,7 +16,7 @@ const LONGEST_SIDE: u32 = 4;
 /// Whether a board may be this wide, or this high.
 pub fn is_side(length: u32) -> bool
     ensures says { result ≡ side length }
-    ensures decides { Decides result ((2 ≤ length) × (length ≤ 4)) }
+    ensures decides { IsTrue result ↔ ((2 ≤ length) × (length ≤ 4)) }
 {
     (SHORTEST_SIDE..=LONGEST_SIDE).contains(&length)
 }

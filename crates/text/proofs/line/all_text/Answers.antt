@@ -1,14 +1,12 @@
-use Rattle.std.proofs.Common.{sym, ◌∙◌}
-use Rattle.std.proofs.lemmas.List.{at_drop_all}
-use Rattle.text.specs.Lines.{all_text}
-use Rattle.text.proofs.Lines.{all_text_more}
+use Rattle.std.proofs.Common.{◌&&◌, refl, ◌∙◌, rules, tests}
+use Rattle.std.specs.List.{list_all}
+use Rattle.std.proofs.lemmas.Iterator.{YieldsList-from_slice}
+use Rattle.std.proofs.lemmas.Iterator.Search.{all_from_yields_List}
+use Rattle.std.proofs.lemmas.List.Recursion.{same_from_clauses}
+use Rattle.text.specs.Lines.{text_byte, all_text}
 use Rattle.text.proofs.line.all_text.Goals as goal
 
-pub returns-then-not-is_text_byte : goal.returns-then-not-is_text_byte
-returns-then-not-is_text_byte c = sym (all_text_more _ _ _ c.loop-b-test.true c.if-not-is_text_byte.ensures) ∙ c.loop-b.invariant
-
-pub loop-b-preserved : goal.loop-b-preserved
-loop-b-preserved c = sym (all_text_more _ _ _ c.loop-b-test.true c.if-not-is_text_byte.ensures) ∙ c.loop-b.invariant
-
 pub returns : goal.returns
-returns c = sym (at_drop_all all_text c.args.text.now _ c.loop-b-test.false) ∙ c.loop-b.invariant
+returns c =
+    all_from_yields_List text_byte _ _ _ c.all.ensures.ran (YieldsList-from_slice c.args.text.now cc) (λ x b q k. search (rules, tests))
+    ∙ same_from_clauses (list_all text_byte) all_text (λ b rest. text_byte b && rest) refl (λ _ _. refl) (λ _ _. refl) c.args.text.now

@@ -1,18 +1,19 @@
-use Rattle.std.proofs.Common.{sym, arith}
-use Rattle.std.proofs.lemmas.List.Sums.{prefix_len-drop_yes, prefix_len-drop_no, prefix_len-drop_all}
+use Rattle.std.proofs.Common.{◌+◌, drop, ap, ◌∙◌, rules, tests}
+use Rattle.std.proofs.lemmas.Iterator.{YieldsList-from_slice}
+use Rattle.std.proofs.lemmas.Iterator.Adapters.{YieldsList-from_skip}
+use Rattle.std.proofs.lemmas.Iterator.Consumers.{YieldsList-at, count_from_yields_List}
+use Rattle.std.proofs.lemmas.Iterator.Search.{YieldsList-from_take_while}
+use Rattle.std.proofs.lemmas.List.Folds.{length-prefix_len}
 use Rattle.text.proofs.run.run_end.Goals as goal
 
-pub loop-at-preserved : goal.loop-at-preserved
-loop-at-preserved g c =
-    let e = prefix_len-drop_yes g.C.ByteClass.has c.args.text.now c.loop-at.at 0 c.loop-at-test.true (sym c.if-has.ensures) in
-    (omega arith, λ _. omega arith)
-
-pub returns-else-has : goal.returns-else-has
-returns-else-has g c =
-    let e = prefix_len-drop_no g.C.ByteClass.has c.args.text.now c.loop-at.at 0 c.loop-at-test.true (sym c.if-has.ensures) in
-    record { ends = omega arith; inside = λ _. omega arith }
-
-pub returns-after-loop-at : goal.returns-after-loop-at
-returns-after-loop-at g c =
-    let e = prefix_len-drop_all g.C.ByteClass.has c.args.text.now c.loop-at.at c.loop-at-test.false in
-    record { ends = omega arith; inside = λ h. c.loop-at.invariant.1 h }
+pub returns-clause-ends : goal.returns-clause-ends
+returns-clause-ends g c =
+    let has = g.C.ByteClass.has in
+    let t = c.args.text.now in
+    let from = c.args.from in
+    ap (λ k. from + k)
+    (count_from_yields_List c.take_while-run.result _ c.count.ensures.ran
+    (YieldsList-from_take_while _ has
+    (YieldsList-at c.take_while-run.ensures.source (YieldsList-from_skip from (YieldsList-at c.skip.ensures.source (YieldsList-from_slice t cc)) c.skip.ensures.count))
+    c.take_while-run.ensures.closure c.take_while-run.ensures.done (λ x b q k. search (rules, tests)))
+    ∙ length-prefix_len has (drop from t))

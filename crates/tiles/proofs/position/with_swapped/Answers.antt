@@ -1,5 +1,5 @@
 use Rattle.std.proofs.Common.{◌≡◌, ℕ, ◌+◌, ◌-◌, ◌*◌, ◌%◌, ◌^◌, ◌<◌, ◌≤◌, length, get_or, sym, ap, ◌∙◌, subst, arith}
-use Rattle.std.proofs.ByRecursion.{All-get_or}
+use Rattle.std.proofs.lemmas.List.Elements.{All-get_or}
 use Rattle.tiles.specs.Board.{packed, cells, swapped}
 use Rattle.tiles.proofs.Board.{Small, length_cells, small_cells, packed_cells, shl_cell, tile_le, packed_swapped, packed_lt, length_swapped, small_swapped}
 use Rattle.tiles.proofs.position.with_swapped.Goals as goal

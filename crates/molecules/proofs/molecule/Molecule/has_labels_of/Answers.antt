@@ -1,25 +1,18 @@
-use Rattle.std.proofs.Common.{◌≡◌, sym, subst, arith}
+use Rattle.std.proofs.Common.{◌≡◌, ap, ◌∙◌, rules, tests}
+use Rattle.std.specs.List.{list_all, range_with_len}
 use Rattle.std.proofs.lemmas.Bool.Decides.{Decides-at}
+use Rattle.std.proofs.lemmas.Iterator.Search.{all_from_yields_List}
 use Rattle.pictures.specs.Pictures.{shape}
 use Rattle.molecules.specs.Molecules.{wanted}
-use Rattle.molecules.proofs.Alike.{AlikeBefore, alike_decides, alike_on, not_alike}
+use Rattle.molecules.proofs.Ranges.{shown, yields_shown}
+use Rattle.molecules.proofs.Alike.{alike, alike_decides}
 use Rattle.molecules.proofs.molecule.Molecule.has_labels_of.Goals as goal
-
-pub returns-then-count_label : goal.returns-then-count_label
-returns-then-count_label c =
-    let b = c.args.board.now in
-    let m = c.args.self.now.picture in
-    let says = sym (not_alike (shape b) (shape m) _ _ _ c.count_label.ensures c.count_label-in-loop-label.ensures (omega arith) (omega arith) c.if-count_label.true) in
-    record { says = says; decides = Decides-at _ _ says (alike_decides b m) }
-
-pub loop-label-preserved : goal.loop-label-preserved
-loop-label-preserved c =
-    alike_on (shape c.args.board.now) (wanted c.args.self.now) _ _ _ c.count_label.ensures c.count_label-in-loop-label.ensures (omega arith) c.loop-label.invariant c.if-count_label.false
 
 pub returns : goal.returns
 returns c =
-    let b = c.args.board.now in
-    let m = c.args.self.now.picture in
-    let all : c.loop-label.label ≡ 91 = omega arith in
-    let says = sym (subst (AlikeBefore (shape b) (shape m)) all c.loop-label.invariant) in
-    record { says = says; decides = Decides-at _ _ says (alike_decides b m) }
+    let b = shape c.args.board.now in
+    let m = wanted c.args.self.now in
+    let letters : shown c.new.result ≡ range_with_len 65 26 = simp (c.new.ensures.start, c.new.ensures.end, c.new.ensures.exhausted) in
+    let all = all_from_yields_List (alike b m) _ _ c.all.result c.all.ensures.ran (yields_shown c.new.result) (λ x t q k. search (rules, tests)) in
+    let says = all ∙ ap (list_all (alike b m)) letters in
+    record { says = says; decides = Decides-at _ _ says (alike_decides c.args.board.now c.args.self.now.picture) }

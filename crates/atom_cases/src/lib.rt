@@ -1,7 +1,0 @@
-//! Atom levels and their ways, good and damaged, with what is said of each. The crate is there for its tests.
-#![tactic(auto)]
-
-#[cfg(test)]
-mod said;
-#[cfg(test)]
-mod tables;
