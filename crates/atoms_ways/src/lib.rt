@@ -13,9 +13,6 @@ use pen::{Compose, Pen};
 use text::Line;
 use ways::Kind;
 
-/// Numbers from here on have more than two digits.
-const THREE_DIGITS: u32 = 100;
-
 /// A move as it is written: where the atom stands, and where it slides.
 #[derive(Clone, Copy, Debug, PartialEq, Eq)]
 pub struct AtomMove {
@@ -70,10 +67,10 @@ impl Kind for AtomKind {
     }
 
     fn read_move(&self, line: Line) -> Option<AtomMove> {
-        let (row, rest) = forms::number(forms::arguments(line, b"move")?)?;
-        let (column, rest) = forms::number(rest)?;
+        let (row, rest) = forms::short_number(forms::arguments(line, b"move")?)?;
+        let (column, rest) = forms::short_number(rest)?;
         let (spelled, rest) = forms::word(rest)?;
-        if !rest.is_empty() || row >= THREE_DIGITS || column >= THREE_DIGITS {
+        if !rest.is_empty() {
             return None;
         }
         let direction = Direction::try_from(spelled).ok()?;
