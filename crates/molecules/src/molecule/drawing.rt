@@ -12,6 +12,16 @@ use pictures::{Cell, Picture};
 /// The character that draws a wall.
 const WALL: u8 = b'#';
 
+/// A molecule one cell wide with no row yet.
+impl Default for Molecule {
+    ghost is_default = { λ molecule. wanted molecule ≡ shape_of 1 0 [] };
+
+    fn default() -> Molecule {
+        let picture = Picture::default();
+        Molecule { picture }
+    }
+}
+
 impl Molecule {
     /// A molecule of this width with no row yet; there is none unless it is 1 to 16 wide.
     pub fn new(width: usize) -> Option<Molecule>
@@ -19,14 +29,6 @@ impl Molecule {
     {
         let picture = Picture::new(width)?;
         Some(Molecule { picture })
-    }
-
-    /// A molecule one cell wide with no row yet: what a reader holds before it knows more.
-    pub fn blank() -> Molecule
-        ensures { wanted result ≡ shape_of 1 0 [] }
-    {
-        let picture = Picture::blank();
-        Molecule { picture }
     }
 
     /// The molecule with one row more. There is none if the row is not as wide as the molecule, if a character is

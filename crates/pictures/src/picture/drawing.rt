@@ -8,6 +8,21 @@ use grid::Grid;
 /// As many cells as a picture may have.
 const MOST_CELLS: usize = Picture::LONGEST_SIDE * Picture::LONGEST_SIDE;
 
+/// A picture one cell wide with no row yet.
+impl Default for Picture {
+    ghost is_default = { λ picture. shape picture ≡ shape_of 1 0 [] };
+
+    fn default() -> Picture {
+        Picture {
+            grid: Grid {
+                width: 1,
+                height: 0,
+            },
+            cells: [Cell::Free; MOST_CELLS],
+        }
+    }
+}
+
 impl Picture {
     /// The most cells that a picture is wide and high.
     pub const LONGEST_SIDE: usize = 16;
@@ -26,19 +41,6 @@ impl Picture {
             },
             cells: [Cell::Free; MOST_CELLS],
         })
-    }
-
-    /// A picture one cell wide with no row yet: what a reader holds before it knows more.
-    pub fn blank() -> Picture
-        ensures { shape result ≡ shape_of 1 0 [] }
-    {
-        Picture {
-            grid: Grid {
-                width: 1,
-                height: 0,
-            },
-            cells: [Cell::Free; MOST_CELLS],
-        }
     }
 
     /// The board that the picture covers.
