@@ -82,6 +82,8 @@ impl<'a> Pen<'a> {
 }
 
 /// A value that a pen can write as text.
+///
+/// Unlike a `Display`, whose `fmt` may fail of itself, it always writes its text: the room alone decides.
 pub trait Compose {
     ghost text: { Self → List ℕ };
 
