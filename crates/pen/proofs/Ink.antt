@@ -8,24 +8,24 @@ use Rattle.pen.specs.declared.Pen.{Pen}
 use Rattle.pen.specs.Ink.{Ink, ink, fresh_ink, dry_ink, pasted, Inked, Writes, written, put, count}
 
 -- a pen that was not over is over exactly where the text is longer than the room
-pub measured : {text : List ℕ} {a b : Ink} → Inked text a b → a.over ≡ false → b.over ≡ ltb a.room (length text)
+measured : {text : List ℕ} {a b : Ink} → Inked text a b → a.over ≡ false → b.over ≡ ltb a.room (length text)
 measured {text = text} {a = a} w clear = w.full ∙ ap (λ o. o || ltb a.room (length text)) clear
 
-pub fits : {text : List ℕ} {a b : Ink} → Inked text a b → a.over ≡ false → length text ≤ a.room → b.over ≡ false
+fits : {text : List ℕ} {a b : Ink} → Inked text a b → a.over ≡ false → length text ≤ a.room → b.over ≡ false
 fits w clear room = measured w clear ∙ le-ltb _ _ room
 
 -- a pen that is not over was not over before, and had the room
-pub was_clear : {text : List ℕ} {a b : Ink} → Inked text a b → b.over ≡ false → a.over ≡ false
+was_clear : {text : List ℕ} {a b : Ink} → Inked text a b → b.over ≡ false → a.over ≡ false
 was_clear w e = (or_parts _ _ (sym w.full ∙ e)).0
 
-pub fitted : {text : List ℕ} {a b : Ink} → Inked text a b → b.over ≡ false → length text ≤ a.room
+fitted : {text : List ℕ} {a b : Ink} → Inked text a b → b.over ≡ false → length text ≤ a.room
 fitted w e = ltb-false _ _ (or_parts _ _ (sym w.full ∙ e)).1
 
 -- nothing
 pasted_nil : (at : ℕ) (out : List ℕ) → out ≡ pasted [] at out
 pasted_nil at out = let same : at + 0 ≡ at = omega arith in rw same (sym (take-append-drop at out))
 
-pub inked_nil : (a : Ink) → Inked [] a a
+inked_nil : (a : Ink) → Inked [] a a
 inked_nil a = record {
   full = grind (arith, nat_tests);
   left = λ _. omega arith;
@@ -51,7 +51,7 @@ pasted_more t u out at room =
 full_more : (p q r : Bool) (m n k l : ℕ) → q ≡ (p || ltb m k) → (q ≡ false → n ≡ m - k) → r ≡ (q || ltb n l) → r ≡ (p || ltb m (k + l))
 full_more p q r m n k l first left second = grind (arith, nat_tests)
 
-pub inked_more : {t u : List ℕ} {a b c : Ink} → Inked t a b → Inked u b c → Inked (t ++ u) a c
+inked_more : {t u : List ℕ} {a b c : Ink} → Inked t a b → Inked u b c → Inked (t ++ u) a c
 inked_more {t = t} {u = u} {a = a} {b = b} f g =
     let both = length-append t u in
     record {
@@ -98,14 +98,14 @@ pub leads_end : {whole : List ℕ} {a b : Pen} → Leads whole [] a b → Writes
 leads_end {b = b} leads = leads b (writes_nil b)
 
 -- a text at the front of a buffer
-pub fresh_fits : {text out : List ℕ} {b : Ink} → Inked text (fresh_ink out) b → b.over ≡ false → (b.out ≡ written text out) × (b.room ≡ length out - length text)
+fresh_fits : {text out : List ℕ} {b : Ink} → Inked text (fresh_ink out) b → b.over ≡ false → (b.out ≡ written text out) × (b.room ≡ length out - length text)
 fresh_fits {text = text} {out = out} w e =
     let front : length out - length out ≡ 0 = omega arith in
     let next : 0 + length text ≡ length text = omega arith in
     (w.laid e (omega arith) ∙ ap (λ at. pasted text at out) front ∙ ap (λ k. text ++ drop k out) next, w.left e)
 
 -- The two ends of `write_text`. The dry pen was over, so the text is too long:
-pub over_dry : {text : List ℕ} (out : List ℕ) {a b : Ink} → a ≡ dry_ink (length out) → Inked text a b → true ≡ b.over → length out < length text
+over_dry : {text : List ℕ} (out : List ℕ) {a b : Ink} → a ≡ dry_ink (length out) → Inked text a b → true ≡ b.over → length out < length text
 over_dry {text = text} out {b = b} dry w e =
     ltb-true _ _ (sym (measured (subst (λ p. Inked text p b) dry w) refl) ∙ sym e)
 
@@ -114,11 +114,11 @@ pub refused : {text : List ℕ} (out : List ℕ) {a b : Ink} → a ≡ dry_ink (
 refused out dry w e = let long = over_dry out dry w e in (grind (arith, nat_tests), grind (arith, nat_tests))
 
 -- or it was not, so the text fits:
-pub under_dry : {text : List ℕ} (out : List ℕ) {a b : Ink} → a ≡ dry_ink (length out) → Inked text a b → false ≡ b.over → length text ≤ length out
+under_dry : {text : List ℕ} (out : List ℕ) {a b : Ink} → a ≡ dry_ink (length out) → Inked text a b → false ≡ b.over → length text ≤ length out
 under_dry {text = text} out {b = b} dry w e = fitted (subst (λ p. Inked text p b) dry w) (sym e)
 
 -- and a pen over the buffer wrote it, and has that much room left.
-pub laid_fresh : {text : List ℕ} (out : List ℕ) {p q : Ink} → p ≡ fresh_ink out → Inked text p q → length text ≤ length out → (q.out ≡ written text out) × (q.room ≡ length out - length text)
+laid_fresh : {text : List ℕ} (out : List ℕ) {p q : Ink} → p ≡ fresh_ink out → Inked text p q → length text ≤ length out → (q.out ≡ written text out) × (q.room ≡ length out - length text)
 laid_fresh {text = text} out {q = q} new v room =
     let wrote = subst (λ p. Inked text p q) new v in
     fresh_fits wrote (fits wrote refl room)

@@ -65,13 +65,9 @@ impl<'a> Pen<'a> {
             self.over = true;
             return;
         }
-        let room = self.room;
-        let long = self.out.len();
         // A dry pen has more room than buffer, and nowhere to write.
-        if room <= long {
-            let at = long - room;
-            let end = at + text.len();
-            self.out[at..end].copy_from_slice(text);
+        if let Some(at) = self.out.len().checked_sub(self.room) {
+            self.out[at..at + text.len()].copy_from_slice(text);
         }
         self.room -= text.len();
     }

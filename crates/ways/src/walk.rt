@@ -1,6 +1,8 @@
-ghost use Rattle.std.specs.Prelude.{◌≡◌, IsSome, MatchOption, MatchResult};
+ghost use Rattle.std.specs.Prelude.{◌≡◌, IsSome, IfSome, IfOk};
+ghost use Rattle.std.specs.Option.{option_map};
 ghost use Rattle.pen.specs.Ink.{Writes};
 ghost use Rattle.puzzle.specs.Game.{Reached};
+ghost use Rattle.text.specs.Reading.{seen};
 ghost use Rattle.ways.specs.Judging.{followed};
 ghost use Rattle.ways.specs.Writing.{opened};
 
@@ -44,7 +46,8 @@ impl<'a, K: Kind> Walk<'a, K> {
 
     /// Where a move number leads, if there is such a move and it is open.
     pub(crate) fn play(&self, number: u32) -> Option<Self>
-        ensures { let leads = opened (K.Kind.notation self.now.kind.now) self.now.position number in MatchOption result (leads ≡ None) (λ next. (leads ≡ Some next.position) × (next.kind ≡ self.now.kind)) }
+        ensures leads { option_map (λ next. next.position) result ≡ opened (K.Kind.notation self.now.kind.now) self.now.position number }
+        ensures same { IfSome result (λ next. next.kind ≡ self.now.kind) }
     {
         if number >= K::MOVES {
             return None;
@@ -68,7 +71,8 @@ impl<'a, K: Kind> Walk<'a, K> {
 
     /// Where a move leads that is written on a line, or why it is refused.
     pub(crate) fn follow(&self, written: &K::Written, line: usize) -> Result<Self, Refusal>
-        ensures { let leads = followed (K.Kind.notation self.now.kind.now) self.now.position line written.now in MatchResult result (λ next. (leads ≡ Ok next.position) × (next.kind ≡ self.now.kind)) (λ refusal. leads ≡ Err refusal) }
+        ensures leads { seen (λ next. next.position) result ≡ followed (K.Kind.notation self.now.kind.now) self.now.position line written.now }
+        ensures same { IfOk result (λ next. next.kind ≡ self.now.kind) }
     {
         let number = self
             .move_number(written)

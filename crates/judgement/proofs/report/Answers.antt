@@ -8,8 +8,8 @@ use Rattle.judgement.proofs.report.Goals as goal
 refused : (r : Refusal) → refusal_text r ++ codes "\n" ≡ report_text (Err r)
 refused r =
     ap (λ text. codes "(fault " ++ text)
-      (append_assoc (decimal (number_of r.fault)) _ _
-        ∙ ap (λ text. decimal (number_of r.fault) ++ (codes " " ++ text)) (append_assoc (decimal r.line) _ _))
+    (append_assoc (decimal (number_of r.fault)) _ _
+    ∙ ap (λ text. decimal (number_of r.fault) ++ (codes " " ++ text)) (append_assoc (decimal r.line) _ _))
 
 pub returns-in-Err : goal.returns-in-Err
 returns-in-Err c = rw (ap report_text c.in-Err.is ∙ sym (refused c.in-Err.refusal)) c.format-in-Err.ensures.ok

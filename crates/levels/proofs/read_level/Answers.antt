@@ -34,7 +34,7 @@ atoms_told (Err e) s is = ap told is
 pub returns-then-starts_with-clause-reads : goal.returns-then-starts_with-clause-reads
 returns-then-starts_with-clause-reads c =
     rw (says c.args.text.now _ (sym c.if-starts_with.true ∙ c.starts_with.ensures.value))
-      (atoms_told _ _ c.map.ensures.cases ∙ ap as_atoms c.read_level.ensures.reads)
+    (atoms_told _ _ c.map.ensures.cases ∙ ap as_atoms c.read_level.ensures.reads)
 
 pub returns-then-starts_with-clause-exactly : goal.returns-then-starts_with-clause-exactly
 returns-then-starts_with-clause-exactly c = reads_exactly _
@@ -42,7 +42,7 @@ returns-then-starts_with-clause-exactly c = reads_exactly _
 pub returns-else-starts_with-clause-reads : goal.returns-else-starts_with-clause-reads
 returns-else-starts_with-clause-reads c =
     rw (says c.args.text.now _ (sym c.if-starts_with.false ∙ c.starts_with.ensures.value))
-      (tiles_told _ _ c.map-else-starts_with.ensures.cases ∙ ap as_tiles c.read_level-else-starts_with.ensures.reads)
+    (tiles_told _ _ c.map-else-starts_with.ensures.cases ∙ ap as_tiles c.read_level-else-starts_with.ensures.reads)
 
 pub returns-else-starts_with-clause-exactly : goal.returns-else-starts_with-clause-exactly
 returns-else-starts_with-clause-exactly c = reads_exactly _

@@ -18,11 +18,11 @@ loop-number-preserved g c =
     let inv = c.loop-number.invariant in
     let led = c.in-Some.ensures in
     let next : i + 1 + 2 ≡ i + 2 + 1 = omega arith in
-    let on = ap (λ b. opened (g.K.Kind.notation b.now) p m) (sym inv.same) ∙ led.0 in
-    let wrote = c.write_move.ensures (ap is_some led.0) in
+    let on = ap (λ b. opened (g.K.Kind.notation b.now) p m) (sym inv.same) ∙ sym led.leads in
+    let wrote = c.write_move.ensures (sym (ap is_some led.leads)) in
     record {
       plays = ap (λ n. played_from k c.in-Some.next.position n (drop (i + 1) ms)) next ∙ sym (played_more k p (i + 2) ms i _ c.loop-number-test.true on) ∙ inv.plays;
-      same = led.1 ∙ inv.same;
+      same = led.same ∙ inv.same;
       wrote =
           leads_more
           (leads_more (leads_as (ap join_lines (lines_more k p ms i _ c.loop-number-test.true on)) inv.wrote)
