@@ -1,7 +1,7 @@
 -- A text is read as a level exactly where it is that level written out. Assumes nothing.
 use Rattle.std.proofs.Common.{◌≡◌, ℕ, zero, suc, ◌+◌, ◌-◌, ◌*◌, ◌<◌, ◌≤◌, Bool, true, false, cond, ◌⊎◌, List, [], ◌∷◌, ◌++◌, length, take, drop, Ok, Err, codes, Result, sym, refl, ap, ◌∙◌, subst, inl, inr, append_assoc, append-nil, mul-suc, arith}
-use Rattle.std.specs.List.{AllByRecursion as All}
-use Rattle.std.proofs.ByRecursion.{All-append}
+use Rattle.std.specs.List.{All}
+use Rattle.std.proofs.lemmas.List.Elements.{All-nil, All-cons, All-append}
 use Rattle.std.proofs.lemmas.List.{length-append, length-take-le, length-drop, nil_from_length, take-append-drop, take_at, drop_at}
 use Rattle.refusals.specs.declared.Refusal.{Refusal}
 use Rattle.refusals.specs.declared.Fault.{Fault}
@@ -365,11 +365,10 @@ module _ (b m : Shape) (valid : Valid (atoms_of b m)) where
       let wide = valid.board.wide in
       let high = valid.board.high in
       let board = short_rows (codes "row") (printed_by (codes "row") refl) (omega arith) b.height b.width b.cells wide.1 valid.board.lettered in
-      let molecule = short_rows (codes "want") (printed_by (codes "want") refl) (omega arith) m.height m.width m.cells valid.molecule.wide.1 valid.molecule.lettered in (
-        short_head b.width b.height (omega arith) (omega arith),
-        All-append Short (picture_lines (codes "row") b ++ picture_lines (codes "want") m) (closing ∷ [])
-            (All-append Short (picture_lines (codes "row") b) (picture_lines (codes "want") m) board molecule) (short_close, tt),
-      )
+      let molecule = short_rows (codes "want") (printed_by (codes "want") refl) (omega arith) m.height m.width m.cells valid.molecule.wide.1 valid.molecule.lettered in
+      All-cons Short (head_line b.width b.height) ((picture_lines (codes "row") b ++ picture_lines (codes "want") m) ++ (closing ∷ [])) (short_head b.width b.height (omega arith) (omega arith))
+      (All-append Short (picture_lines (codes "row") b ++ picture_lines (codes "want") m) (closing ∷ [])
+      (All-append Short (picture_lines (codes "row") b) (picture_lines (codes "want") m) board molecule) (All-cons Short closing [] short_close (All-nil Short)))
 
   lines_read : read_level (level_text (atoms_of b m)) ≡ Ok (atoms_of b m)
   lines_read =

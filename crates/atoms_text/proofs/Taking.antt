@@ -1,6 +1,7 @@
 -- The lines that a reader takes: those of a level where they are due, and no others. Assumes nothing.
 use Rattle.std.proofs.Common.{◌≡◌, ℕ, suc, ◌-◌, ◌<◌, ◌≤◌, Bool, true, false, cond, ◌&&◌, eqb, ltb, leb, ◌⊎◌, List, [], ◌∷◌, map, length, Some, None, Ok, Err, codes, Option, sym, refl, ap, ◌∙◌, inl, inr, arith}
-use Rattle.std.specs.List.{AllByRecursion as All}
+use Rattle.std.specs.List.{All}
+use Rattle.std.proofs.lemmas.List.Elements.{All-nil, All-cons}
 use Rattle.std.proofs.lemmas.List.{length-map}
 use Rattle.std.proofs.lemmas.Bool.{cond-true, cond-false, leb-true, lt-ltb, ne_eqb}
 use Rattle.std.proofs.lemmas.Bool.Decides.{nat_tests}
@@ -21,8 +22,8 @@ use Rattle.atoms_text.proofs.Rows.{grown, Adds, row_adds, want_adds, row_taken, 
 
 -- what holds of the characters of lettered cells
 pub each_symbol : (P : ℕ → Type 0) → ((x : Cell) → lettered x ≡ true → P (symbol_of x)) → (xs : List Cell) → Lettered xs → All P (map symbol_of xs)
-each_symbol P each [] letters = tt
-each_symbol P each (x ∷ xs) letters = (each x (letters 0), each_symbol P each xs (λ i. letters (suc i)))
+each_symbol P each [] letters = All-nil P
+each_symbol P each (x ∷ xs) letters = All-cons P (symbol_of x) (map symbol_of xs) (each x (letters 0)) (each_symbol P each xs (λ i. letters (suc i)))
 
 -- they are no brackets
 symbol_inside : (x : Cell) → lettered x ≡ true → inside (symbol_of x) ≡ true

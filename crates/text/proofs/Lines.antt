@@ -1,7 +1,7 @@
 -- Lines: a text cut at its line ends. Assumes nothing.
 use Rattle.std.proofs.Common.{◌≡◌, ℕ, suc, ◌+◌, ◌^◌, ◌<◌, ◌≤◌, Bool, true, false, cond, not, eqb, ltb, List, [], ◌∷◌, ◌++◌, length, take, drop, Some, None, Ok, Err, decimal, Option, Result, sym, refl, ap, ◌∙◌, one-add, arith}
-use Rattle.std.specs.List.{AllByRecursion as All}
-use Rattle.std.specs.List.{prefix_len}
+use Rattle.std.specs.List.{All, prefix_len}
+use Rattle.std.proofs.lemmas.List.Elements.{All-head, All-tail}
 use Rattle.std.proofs.lemmas.List.{drop-take, drop-drop, length-drop, length-take-le}
 use Rattle.std.specs.Char.{is_ascii_digit}
 use Rattle.std.proofs.lemmas.Fmt.{digits_decimal}
@@ -12,7 +12,7 @@ use Rattle.text.proofs.Whole.{whole_append, whole_digits}
 use Rattle.std.proofs.lemmas.List.Sums.{prefix_len-le-length}
 use Rattle.text.proofs.Cases.{never, parts}
 use Rattle.text.specs.declared.line.Line.{Line}
-use Rattle.text.specs.Lines.{split, before, in_line, OneLine, line_end, line_at, told, bytes, join_lines, Reading, reading, read_lines}
+use Rattle.text.specs.Lines.{split, before, in_line, OneLine, line_end, line_at, told, bytes, join_lines, Reading, read_lines}
 
 -- parts of one line make one line
 pub one_line_append : (a b : List ℕ) → OneLine a → OneLine b → OneLine (a ++ b)
@@ -45,7 +45,7 @@ split_last (c ∷ l) one = by (eqb c 10) one (split_last l)
 -- lines that are joined are found again
 pub split_join : (ls : List (List ℕ)) → All OneLine ls → split (join_lines ls) ≡ ls ++ ([] ∷ [])
 split_join [] all = refl
-split_join (l ∷ ls) all = split_line l (join_lines ls) all.0 ∙ ap (λ x. l ∷ x) (split_join ls all.1)
+split_join (l ∷ ls) all = split_line l (join_lines ls) (All-head OneLine l ls all) ∙ ap (λ x. l ∷ x) (split_join ls (All-tail OneLine l ls all))
 
 suc_form : (j : ℕ) → suc (j + 1) ≡ 1 + j + 1
 suc_form j = omega arith
@@ -116,19 +116,7 @@ some_part (c ∷ t) = by (eqb c 10) (some_part t)
     by true more = ([], split t, refl)
     by false more = (c ∷ more.0, more.1, ap (before c) more.2)
 
--- a reader of lines, one line on and at the end
+-- a reader of lines, one line on
 module _ {S E : Type 0} (take-line : S → ℕ → List ℕ → Result S E) where
   abbrev pub goes : ℕ → List (List ℕ) → Result S E → Result (Reading S) E
   goes n parts r = elim r [ Ok s ↦ read_lines take-line s (n + 1) parts | Err e ↦ Err e ]
-
-  pub read_more : (s : S) (n : ℕ) (l : List ℕ) (t : List ℕ) → read_lines take-line s n (l ∷ split t) ≡ goes n (split t) (take-line s n l)
-  read_more s n l t =
-      let p = some_part t in
-      ap (λ x. read_lines take-line s n (l ∷ x)) p.2 ∙ ap (λ x. goes n x (take-line s n l)) (sym p.2)
-
-  pub read_step : (s : S) (n : ℕ) (t : List ℕ) (at : ℕ) (o : Result S E) → line_end t at < length t → take-line s n (drop at (take (line_end t at) t)) ≡ o → read_lines take-line s n (split (drop at t)) ≡ goes n (split (drop (line_end t at + 1) t)) o
-  read_step s n t at o h e =
-      ap (read_lines take-line s n) (split_at t at h) ∙ read_more s n _ (drop (line_end t at + 1) t) ∙ ap (goes n (split (drop (line_end t at + 1) t))) e
-
-  pub read_end : (s : S) (n : ℕ) (t : List ℕ) (at : ℕ) → length t ≤ line_end t at → read_lines take-line s n (split (drop at t)) ≡ Ok (reading s n (drop at t))
-  read_end s n t at h = ap (read_lines take-line s n) (split_end t at h)

@@ -1,12 +1,11 @@
 -- Reading a text line by line: what a reader makes of the lines that a text is cut into. Assumes nothing.
-use Rattle.std.proofs.Common.{◌≡◌, ℕ, ◌+◌, ◌≤◌, Bool, true, false, cond, List, [], ◌∷◌, ◌++◌, length, drop, Ok, Err, Result, sym, refl, ap, ◌∙◌}
-use Rattle.std.specs.List.{AllByRecursion as All}
-use Rattle.std.proofs.ByRecursion.{All-weaker}
+use Rattle.std.proofs.Common.{◌≡◌, ℕ, ◌+◌, ◌≤◌, Bool, true, false, cond, List, [], ◌∷◌, ◌++◌, length, Ok, Err, Result, sym, refl, ap, ◌∙◌}
+use Rattle.std.specs.List.{All}
+use Rattle.std.proofs.lemmas.List.Elements.{All-weaker}
 use Rattle.std.proofs.lemmas.Bool.{cond-true}
-use Rattle.text.specs.declared.line.Line.{Line}
-use Rattle.text.specs.Lines.{is_text, split, join_lines, OneLine, line_end, bytes, Reading, read_lines, concluded, read_text}
+use Rattle.text.specs.Lines.{is_text, split, join_lines, OneLine, Reading, read_lines, concluded, read_text}
 use Rattle.text.proofs.Cases.{clash}
-use Rattle.text.proofs.Lines.{Found, goes, read_step, read_end, split_join}
+use Rattle.text.proofs.Lines.{goes, split_join}
 use Rattle.text.proofs.Texts.{Short, one_line, is_text_lem, text_cut}
 
 module _ {S T E : Type 0} (take : S → ℕ → List ℕ → Result S E) (finish : ℕ → S → Result T E) where
@@ -16,24 +15,6 @@ module _ {S T E : Type 0} (take : S → ℕ → List ℕ → Result S E) (finish
   -- a text that is one is read line by line
   pub read_text_lem : (start : S) (strange : E) (t : List ℕ) → is_text t ≡ true → concluded finish (whole_reading start t) ≡ read_text take finish start strange t
   read_text_lem start strange t is = sym (cond-true (is_text t) _ _ is)
-
-  -- A loop over the lines: the state s from the place at and line n on, where all is read as from the start.
-  module _ (start s : S) (n : ℕ) (t : List ℕ) (at : ℕ) (so_far : read_lines take s n (split (drop at t)) ≡ whole_reading start t) where
-    module _ (l : Line) (line : Found t at l) where
-      step : (o : Result S E) → take s n (bytes l) ≡ o → goes take n (split (drop (length l.text.now + 1) t)) o ≡ whole_reading start t
-      step o says =
-          ap (λ k. goes take n (split (drop (k + 1) t)) o) line.long
-          ∙ sym (read_step take s n t at o line.ended (ap (take s n) (sym line.whole) ∙ says))
-          ∙ so_far
-
-      pub line_taken : (f : S) → take s n (bytes l) ≡ Ok f → read_lines take f (n + 1) (split (drop (length l.text.now + 1) t)) ≡ whole_reading start t
-      line_taken f says = step (Ok f) says
-
-      pub line_refused : (e : E) → take s n (bytes l) ≡ Err e → Err e ≡ whole_reading start t
-      line_refused e says = step (Err e) says
-
-    pub lines_end : length t ≤ line_end t at → finish n s ≡ concluded finish (whole_reading start t)
-    lines_end past = ap (concluded finish) (sym (read_end take s n t at past) ∙ so_far)
 
   -- what all these lines make of a state
   abbrev pub ends : S → ℕ → List (List ℕ) → Result T E

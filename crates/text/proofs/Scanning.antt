@@ -1,5 +1,5 @@
 -- The piece at a place of a text. Assumes nothing.
-use Rattle.std.proofs.Common.{◌≡◌, ℕ, ◌+◌, ◌-◌, ◌<◌, ◌≤◌, eqb, leb, List, ◌∷◌, length, get_or, take, drop, Some, None, sym, ap, ◌∙◌, arith}
+use Rattle.std.proofs.Common.{◌≡◌, ℕ, ◌+◌, ◌-◌, ◌<◌, ◌≤◌, List, ◌∷◌, length, get_or, take, drop, Some, None, sym, ap, ◌∙◌, arith}
 use Rattle.std.specs.List.{prefix_len}
 use Rattle.std.proofs.lemmas.List.{at_drop_more, at_drop_all, drop-drop}
 use Rattle.std.proofs.lemmas.List.Sums.{prefix_len-drop_yes, prefix_len-drop_no}
@@ -36,6 +36,3 @@ at_run t at end h a b d e =
     ∙ ap (λ r. Some (of_run (take k (drop at t)), r)) (ap (λ n. drop n t) e ∙ sym (drop-drop k at t))
     ∙ sym some
     ∙ sym (run_at t at h a b)
-
-pub empty_at : (t : List ℕ) (at : ℕ) (n : ℕ) → n ≡ length t - at → leb (length t) at ≡ eqb n 0
-empty_at t at n e = grind (arith, nat_tests)

@@ -1,8 +1,7 @@
 -- Texts of printed lines: they are texts, and a text that is read is cut into such lines. Assumes nothing.
 use Rattle.std.proofs.Common.{◌≡◌, ℕ, suc, ◌+◌, ◌-◌, ◌*◌, ◌<◌, ◌≤◌, Bool, true, false, cond, ◌&&◌, eqb, ltb, leb, List, [], ◌∷◌, ◌++◌, length, get_or, take, drop, sym, refl, ap, ◌∙◌, append_assoc, arith}
-use Rattle.std.specs.List.{AllByRecursion as All}
-use Rattle.std.specs.List.{prefix_len}
-use Rattle.std.proofs.ByRecursion.{All-weaker}
+use Rattle.std.specs.List.{All, prefix_len}
+use Rattle.std.proofs.lemmas.List.Elements.{All-nil, All-cons, All-head, All-tail, All-weaker}
 use Rattle.std.proofs.lemmas.List.{length-append, length_push, get_or_at, take-append-drop, drop_more, drop_all}
 use Rattle.std.proofs.lemmas.Bool.{cond-true, and_from, and_parts, ltb-true, eqb-true}
 use Rattle.std.proofs.lemmas.Bool.Decides.{nat_tests}
@@ -19,8 +18,8 @@ all_printed (b ∷ bs) = (leb 32 b && leb b 126) && all_printed bs
 
 -- for bytes that are known, by `refl`
 pub printed_by : (l : List ℕ) → all_printed l ≡ true → All Printed l
-printed_by [] is = tt
-printed_by (b ∷ l) is = let both = and_parts (leb 32 b && leb b 126) _ is in (here b both.0, printed_by l both.1)
+printed_by [] is = All-nil Printed
+printed_by (b ∷ l) is = let both = and_parts (leb 32 b && leb b 126) _ is in All-cons Printed b l (here b both.0) (printed_by l both.1)
   where
     here : (b : ℕ) → leb 32 b && leb b 126 ≡ true → Printed b
     here b is = (grind (arith, nat_tests), grind (arith, nat_tests))
@@ -33,9 +32,9 @@ pub record Short (l : List ℕ) : Type 0 where
 pub leading_all : (p : ℕ → Bool) (l : List ℕ) → All (λ b. p b ≡ true) l → prefix_len p l ≡ length l
 leading_all p [] all = refl
 leading_all p (b ∷ l) all =
-    let more = leading_all p l all.1 in
+    let more = leading_all p l (All-tail (λ c. p c ≡ true) b l all) in
     let one : 1 + prefix_len p l ≡ suc (length l) = omega arith in
-    cond-true (p b) _ _ all.0 ∙ one
+    cond-true (p b) _ _ (All-head (λ c. p c ≡ true) b l all) ∙ one
 
 pub one_line : (l : List ℕ) → Short l → OneLine l
 one_line l short =
@@ -44,20 +43,20 @@ one_line l short =
 -- such lines make a text
 all_text_line : (l rest : List ℕ) → All Printed l → all_text rest ≡ true → all_text (l ++ (10 ∷ rest)) ≡ true
 all_text_line [] rest all more = more
-all_text_line (b ∷ l) rest all more = and_from _ _ (here b all.0) (all_text_line l rest all.1 more)
+all_text_line (b ∷ l) rest all more = and_from _ _ (here b (All-head Printed b l all)) (all_text_line l rest (All-tail Printed b l all) more)
   where
     here : (b : ℕ) → Printed b → text_byte b ≡ true
     here b h = grind (arith, nat_tests)
 
 all_text_lines : (ls : List (List ℕ)) → All Short ls → all_text (join_lines ls) ≡ true
 all_text_lines [] all = refl
-all_text_lines (l ∷ ls) all = all_text_line l (join_lines ls) all.0.printed (all_text_lines ls all.1)
+all_text_lines (l ∷ ls) all = all_text_line l (join_lines ls) (All-head Short l ls all).printed (all_text_lines ls (All-tail Short l ls all))
 
 length_lines : (ls : List (List ℕ)) → All Short ls → length (join_lines ls) ≤ 25 * length ls
 length_lines [] all = omega arith
 length_lines (l ∷ ls) all =
-    let more = length_lines ls all.1 in
-    let this = all.0.short in
+    let more = length_lines ls (All-tail Short l ls all) in
+    let this = (All-head Short l ls all).short in
     omega (arith, length-append l (10 ∷ join_lines ls))
 
 -- the last line's end is the text's

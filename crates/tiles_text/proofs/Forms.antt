@@ -1,6 +1,8 @@
 -- The lines of a level: what each is taken as, and that no other line is taken there. Assumes nothing.
 use Rattle.std.proofs.Common.{◌≡◌, ℕ, ◌+◌, ◌*◌, ◌^◌, ◌<◌, ◌≤◌, Bool, true, false, cond, ◌&&◌, List, [], ◌∷◌, ◌++◌, length, get_or, Some, None, Ok, Err, codes, decimal, Option, sym, refl, ap, ◌∙◌, arith, lit<}
 use Rattle.std.specs.List.{AllByRecursion as All}
+use Rattle.std.specs.List as lists
+use Rattle.std.proofs.lemmas.List.Elements as each
 use Rattle.std.proofs.lemmas.Fmt.{decimal_by_steps, decimal_nonempty, length-decimal-le}
 use Rattle.std.proofs.ByRecursion.{All-append, All-push, All-weaker}
 use Rattle.std.proofs.lemmas.Slice.Eq.{bytes_eq-Decides}
@@ -58,19 +60,20 @@ spaced_arguments limit (n ∷ ns) few some below =
       blank = refl;
       some = omega (arith, decimal_nonempty n (omega arith), length-append (decimal n) (spaced ns));
       within = leading_all inside (spaced (n ∷ ns))
-          (All-weaker RowByte (λ b. inside b ≡ true) (λ b r. r.within) (spaced (n ∷ ns)) (spaced_bytes limit (n ∷ ns) few below));
+          (each.All-from_recursion (λ b. inside b ≡ true) (spaced (n ∷ ns))
+          (All-weaker RowByte (λ b. inside b ≡ true) (λ b r. r.within) (spaced (n ∷ ns)) (spaced_bytes limit (n ∷ ns) few below)));
     }
 
 -- no line is long
-printed_bytes : (l : List ℕ) → All RowByte l → All Printed l
-printed_bytes l all = All-weaker RowByte Printed (λ b r. r.printed) l all
+printed_bytes : (l : List ℕ) → All RowByte l → lists.All Printed l
+printed_bytes l all = each.All-from_recursion Printed l (All-weaker RowByte Printed (λ b r. r.printed) l all)
 
 pub short_head : (w h : ℕ) → w < 10 → h < 10 → Short (head_line w h)
 short_head w h hw hh = record {
   printed =
-      All-append Printed (codes "(tiles ") _ (printed_by (codes "(tiles ") refl)
-      (All-append Printed (decimal w) (32 ∷ decimal h) (printed_bytes _ (decimal_bytes w (omega arith)))
-      (blank.printed, printed_bytes _ (decimal_bytes h (omega arith))));
+      each.All-append Printed (codes "(tiles ") (decimal w ++ (32 ∷ decimal h)) (printed_by (codes "(tiles ") refl)
+      (each.All-append Printed (decimal w) (32 ∷ decimal h) (printed_bytes (decimal w) (decimal_bytes w (omega arith)))
+      (each.All-cons Printed 32 (decimal h) blank.printed (printed_bytes (decimal h) (decimal_bytes h (omega arith)))));
   short =
       omega (arith, length-append (decimal w) (32 ∷ decimal h), length-decimal-le 1 w (omega arith) hw (omega arith), length-decimal-le 1 h (omega arith) hh (omega arith));
 }
@@ -84,8 +87,8 @@ length_spaced limit (n ∷ ns) few below =
 pub short_row : (limit : ℕ) (ns : List ℕ) → limit ≤ 16 → length ns ≤ 4 → All (λ n. n < limit) ns → Short (row_line ns)
 short_row limit ns few most below = record {
   printed =
-      All-append Printed (codes "(row") _ (printed_by (codes "(row") refl)
-      (All-append Printed (spaced ns) closing (printed_bytes _ (spaced_bytes limit ns few below)) (printed_by closing refl));
+      each.All-append Printed (codes "(row") (spaced ns ++ closing) (printed_by (codes "(row") refl)
+      (each.All-append Printed (spaced ns) closing (printed_bytes (spaced ns) (spaced_bytes limit ns few below)) (printed_by closing refl));
   short = omega (arith, length-append (spaced ns) closing, length_spaced limit ns few below);
 }
 

@@ -1,8 +1,10 @@
 -- A text is read as a level exactly where it is that level written out. Assumes nothing.
 use Rattle.std.proofs.Common.{◌≡◌, ℕ, zero, suc, ◌+◌, ◌-◌, ◌*◌, ◌^◌, ◌<◌, ◌≤◌, Bool, true, false, cond, eqb, List, [], ◌∷◌, ◌++◌, length, take, drop, Ok, Err, Result, sym, refl, ap, ◌∙◌, subst, append_assoc, append-nil, mul-suc, arith}
 use Rattle.std.specs.List.{AllByRecursion as All}
+use Rattle.std.specs.List as lists
 use Rattle.std.proofs.ByRecursion.{All-append, All-take, All-drop, All-weaker}
 use Rattle.std.proofs.lemmas.List.Elements.{All-from_recursion}
+use Rattle.std.proofs.lemmas.List.Elements as each
 use Rattle.std.proofs.lemmas.List.{length-append, length-take, length-take-le, length-drop, take-append-drop, take_at, take_all, drop_at}
 use Rattle.std.proofs.lemmas.Bool.{cond-true, cond-false, ne_eqb}
 use Rattle.refusals.specs.declared.Refusal.{Refusal}
@@ -209,20 +211,19 @@ module _ (w h : ℕ) (sized : Sized w h) where
       ∙ all_rows (h - 1) 2 [] us (tiled.long ∙ ap (λ k. w * k) more) tiled.below tiled.once
 
   -- and they make a text
-  short_rows : (left : ℕ) (ns : List ℕ) → All (λ k. k < w * h) ns → All Short (row_lines left w ns)
-  short_rows zero ns below = tt
-  short_rows (suc left) ns below = (
-    short_row (w * h) (take w ns) few (omega (arith, length-take w ns, sized.wide)) (All-take (λ k. k < w * h) w ns below),
-    short_rows left (drop w ns) (All-drop (λ k. k < w * h) w ns below),
-  )
+  short_rows : (left : ℕ) (ns : List ℕ) → All (λ k. k < w * h) ns → lists.All Short (row_lines left w ns)
+  short_rows zero ns below = each.All-nil Short
+  short_rows (suc left) ns below =
+      each.All-cons Short (row_line (take w ns)) (row_lines left w (drop w ns))
+      (short_row (w * h) (take w ns) few (omega (arith, length-take w ns, sized.wide)) (All-take (λ k. k < w * h) w ns below))
+      (short_rows left (drop w ns) (All-drop (λ k. k < w * h) w ns below))
 
-  short_lines : (us : List ℕ) → Tiled w h us → All Short (level_lines w h us)
+  short_lines : (us : List ℕ) → Tiled w h us → lists.All Short (level_lines w h us)
   short_lines us tiled =
       let wide = sized.wide in
-      let high = sized.high in (
-        short_head w h (omega arith) (omega arith),
-        All-append Short (row_lines h w us) (closing ∷ []) (short_rows h us tiled.below) (short_close, tt),
-      )
+      let high = sized.high in
+      each.All-cons Short (head_line w h) (row_lines h w us ++ (closing ∷ [])) (short_head w h (omega arith) (omega arith))
+      (each.All-append Short (row_lines h w us) (closing ∷ []) (short_rows h us tiled.below) (each.All-cons Short closing [] short_close (each.All-nil Short)))
 
   length_rows : (left : ℕ) (ns : List ℕ) → length (row_lines left w ns) ≡ left
   length_rows zero ns = refl

@@ -1,7 +1,7 @@
 -- What is written of moves that solve a level is accepted. Assumes nothing.
 use Rattle.std.proofs.Common.{◌≡◌, ℕ, suc, ◌^◌, ◌<◌, ltb, List, [], ◌∷◌, ◌++◌, map, length, Some, decimal, sym, refl, ap, ◌∙◌, subst, append_assoc, arith}
-use Rattle.std.specs.List.{AllByRecursion as All}
-use Rattle.std.proofs.ByRecursion.{All-append}
+use Rattle.std.specs.List.{All}
+use Rattle.std.proofs.lemmas.List.Elements.{All-nil, All-cons, All-append}
 use Rattle.std.proofs.lemmas.Bool.{cond-true, lt-ltb}
 use Rattle.puzzle.specs.Game.{Reached, Solves, here, solved, step}
 use Rattle.text.specs.Lines.{OneLine}
@@ -27,7 +27,7 @@ module _ {P W : Type 0} (k : Notation P W) (lawful : Lawful k) where
     whole : All OneLine (move_lines k p ms)
 
   told : (p : P) (ms : List ℕ) → Reached k.game p → Solves k.game p ms → Told p ms
-  told p [] r (solved h) = record { said = []; spelt = refl; count = refl; legal = ends h; whole = tt }
+  told p [] r (solved h) = record { said = []; spelt = refl; count = refl; legal = ends h; whole = All-nil OneLine }
   told p (m ∷ ms) r (step {q = q} h below leads more) =
       let s = lawful.spells p q m r below leads in
       let rest = told q ms (reached_more k.game p q m r below leads) more in
@@ -38,7 +38,7 @@ module _ {P W : Type 0} (k : Notation P W) (lawful : Lawful k) where
         spelt = ap (map k.spelled) on ∙ ap (λ o. o ∷ map k.spelled (move_lines k q ms)) s.form ∙ ap (λ x. Some s.said ∷ x) rest.spelt;
         count = ap suc rest.count;
         legal = goes h s.names leads rest.legal;
-        whole = subst (All OneLine) (sym on) (s.whole, rest.whole);
+        whole = subst (λ ls. All OneLine ls) (sym on) (All-cons OneLine (k.line p m) (move_lines k q ms) s.whole rest.whole);
       }
 
   pub writes_accepted : (ms : List ℕ) → WritesAccepted k ms
@@ -46,7 +46,9 @@ module _ {P W : Type 0} (k : Notation P W) (lawful : Lawful k) where
       let t = told k.game.start ms ([], here) solves in
       let ls = move_lines k k.game.start ms in
       let head = count_line way (length ms) in
-      let parts : All OneLine (head ∷ (ls ++ (closing ∷ []))) = (one_line_head (length ms) (omega arith), All-append OneLine ls (closing ∷ []) t.whole (refl, tt)) in
+      let parts : All OneLine (head ∷ (ls ++ (closing ∷ []))) =
+      All-cons OneLine head (ls ++ (closing ∷ [])) (one_line_head (length ms) (omega arith))
+      (All-append OneLine ls (closing ∷ []) t.whole (All-cons OneLine closing [] refl (All-nil OneLine))) in
       (accepts_exactly k lawful (way_text k ms) (length ms)).1 (record {
         lines = ls;
         moves = t.said;
