@@ -1,9 +1,10 @@
 -- On every position that is reached each atom stands on a cell of its own. Assumes nothing.
-use Rattle.std.proofs.Common.{◌≡◌, ℕ, ◌*◌, ◌/◌, ◌<◌, ◌≤◌, true, false, List, [], ◌∷◌, length, get_or, take, set, Some, sym, ap, ◌∙◌, subst, ⊎_elim, arith}
+use Rattle.std.proofs.Common.{◌≡◌, ℕ, ◌*◌, ◌/◌, ◌%◌, ◌<◌, ◌≤◌, true, false, List, [], ◌∷◌, length, get_or, take, set, Some, sym, ap, ◌∙◌, subst, ⊎_elim, mul_comm, arith}
+use Rattle.std.proofs.lemmas.Nat.{div_below, mod_below, div-add-mod'}
 use Rattle.std.proofs.lemmas.List.{length-set, length-take-le, get_or-take, get_or-set_same, get_or-set_other}
-use Rattle.std.proofs.lemmas.Bool.{both_ways, cases_eq, or_left}
+use Rattle.std.proofs.lemmas.Bool.{both_ways, cases_eq, cond-true, and_from, or_left, lt-ltb}
 use Rattle.grid.specs.declared.Place.{Place}
-use Rattle.grid.specs.Grid.{cell_at}
+use Rattle.grid.specs.Grid.{row, column, place_of, cell_at}
 use Rattle.puzzle.specs.Game.{Plays, here, then, Reached}
 use Rattle.slides.proofs.Resting.{slid_inside, slid_free}
 use Rattle.atoms.specs.declared.position.Position.{Position}
@@ -96,14 +97,42 @@ module _ (l : Atoms) where
 pub reached_stands : (l : Atoms) → Valid l → (p : Position) → Reached (game l) p → Standing l p
 reached_stands l v p way = plays_stands l _ p way.0 way.1 (start_stands l v)
 
--- an atom is found where it stands
-pub atom_there : (l : Atoms) (p : Position) → Standing l p → (a : ℕ) → a < count l → (place : Place) → cell_at l.board.width l.board.height place ≡ Some (get_or p.cells a 0) → atom_at l p place ≡ Some a
-atom_there l p stands a there place on =
-    let firsts = take (count l) p.cells in
-    let long : length firsts ≡ count l = length-take-le (count l) p.cells (omega (arith, stands.few, stands.long)) in
-    let same : (b : ℕ) → b < count l → get_or firsts b 0 ≡ get_or p.cells b 0 = λ b. get_or-take (count l) p.cells b 0 in
-    found_first l p place _ a on (omega arith) (same a there)
-    (λ b less e.
-    let below : b < count l = omega arith in
-    let one = stands.apart a b there below (sym (sym (same b below) ∙ e)) in
-    omega arith)
+module _ (l : Atoms) (p : Position) (stands : Standing l p) (a : ℕ) (there : a < count l) (wide : 1 ≤ l.board.width) where
+  abbrev cell : ℕ
+  cell = get_or p.cells a 0
+
+  -- where atom a stands
+  abbrev place : Place
+  place = record { row = row l.board.width cell; column = column l.board.width cell }
+
+  -- it is a place of the board
+  placed : place_of l.board.width l.board.height cell ≡ Some place
+  placed = cond-true _ _ _ (lt-ltb cell (l.board.width * l.board.height) (stands.inside a there))
+
+  cell_placed : cell_at l.board.width l.board.height place ≡ Some cell
+  cell_placed =
+      let w = l.board.width in
+      let h = l.board.height in
+      let high = div_below cell w h wide (omega (arith, stands.inside a there, mul_comm w h)) in
+      cond-true _ _ _ (and_from _ _ (lt-ltb (cell / w) h high) (lt-ltb (cell % w) w (mod_below cell w wide)))
+      ∙ ap Some (div-add-mod' cell w)
+
+  -- and the atom is found there
+  pub atom_there : atom_at l p place ≡ Some a
+  atom_there =
+      let firsts = take (count l) p.cells in
+      let long : length firsts ≡ count l = length-take-le (count l) p.cells (omega (arith, stands.few, stands.long)) in
+      let same : (b : ℕ) → b < count l → get_or firsts b 0 ≡ get_or p.cells b 0 = λ b. get_or-take (count l) p.cells b 0 in
+      found_first l p place cell a cell_placed (omega arith) (same a there)
+      (λ b less e.
+      let below : b < count l = omega arith in
+      let one = stands.apart a b there below (sym (sym (same b below) ∙ e)) in
+      omega arith)
+
+-- the atom of an open move stands at a place of the board
+pub open_placed : (l : Atoms) → Valid l → (p q : Position) (m : ℕ) → Reached (game l) p → moved l p m ≡ Some q → (at : Place) × (place_of l.board.width l.board.height (get_or p.cells (m / 4) 0) ≡ Some at)
+open_placed l v p q m reached leads =
+    let stands = reached_stands l v p reached in
+    let there = (moved_open l p m q leads).there in
+    let wide = v.board.wide in
+    (place l p stands (m / 4) there wide.0, placed l p stands (m / 4) there wide.0)

@@ -4,6 +4,7 @@ use Rattle.std.proofs.Common.{sym, ap, ◌∙◌, arith}
 use Rattle.std.proofs.lemmas.Nat.{div_below, mod_below}
 use Rattle.std.proofs.lemmas.Bool.{ltb-true}
 use Rattle.grid.specs.declared.Direction.{Direction}
+use Rattle.grid.specs.declared.Place.{Place}
 use Rattle.grid.specs.Grid.{number_of, direction_of, row, column}
 use Rattle.grid.proofs.Laws.{number_of_lt, number_of_direction_of}
 use Rattle.text.proofs.Cases.{never}
@@ -59,19 +60,19 @@ module _ (l : Atoms) (valid : Valid l) (p q : Position) (m : ℕ) (stands : Stan
   spells false there o is leads = absurd (never q leads)
 
 -- a move that is named is an atom's
-named_below : (l : Atoms) (few : count l ≤ 16) (p : Position) (w : AtomMove) (m : ℕ) (o : Option ℕ) → atom_at l p w.row w.column ≡ o → numbered w.direction o ≡ Some m → m < 64
+named_below : (l : Atoms) (few : count l ≤ 16) (p : Position) (w : AtomMove) (m : ℕ) (o : Option ℕ) → atom_at l p w.place ≡ o → numbered w.direction o ≡ Some m → m < 64
 named_below l few p w m (Some a) there is =
     let same : a * 4 + number_of w.direction ≡ m = cc in
-    omega (arith, number_of_lt w.direction, atom_at_below l p w.row w.column a there)
+    omega (arith, number_of_lt w.direction, atom_at_below l p w.place a there)
 named_below l few p w m None there is = absurd (never m is)
 
 pub lawful : (l : Atoms) → Valid l → Lawful (atom_notation l)
 lawful l valid = record {
   spells = λ p q m reached _ leads. spells l valid p q m (reached_stands l valid p reached) (nat_lt (m / 4) (count l)) refl (direction_of (m % 4)) refl leads;
-  below = λ p w m e. named_below l valid.few p w m (atom_at l p w.row w.column) refl e;
+  below = λ p w m e. named_below l valid.few p w m (atom_at l p w.place) refl e;
   unclosed = refl;
 }
 
 -- an atom that is found has a small number
-pub few_atoms : (l : AtomLevel) (p : Position) (r c a : ℕ) → Some a ≡ atom_at (atoms l) p r c → a < 16
-few_atoms l p r c a e = omega (arith, (level_valid l).few, atom_at_below (atoms l) p r c a (sym e))
+pub few_atoms : (l : AtomLevel) (p : Position) (place : Place) (a : ℕ) → Some a ≡ atom_at (atoms l) p place → a < 16
+few_atoms l p place a e = omega (arith, (level_valid l).few, atom_at_below (atoms l) p place a (sym e))

@@ -10,7 +10,7 @@ use Rattle.ways.specs.Kinds.{Notation}
 use Rattle.atoms_ways.specs.declared.AtomMove.{AtomMove}
 
 abbrev pub move_of : ℕ → ℕ → Direction → AtomMove
-move_of r c d = record { row = r; column = c; direction = d }
+move_of r c d = record { place = record { row = r; column = c }; direction = d }
 
 -- row and column have one or two digits
 abbrev pub short : ℕ → ℕ → Direction → Option AtomMove
@@ -30,7 +30,7 @@ move_in l =
 abbrev pub move_text : AtomMove → List ℕ
 move_text m =
     arguments_line (codes "move")
-    (32 ∷ (decimal m.row ++ (32 ∷ (decimal m.column ++ (32 ∷ word_of m.direction)))))
+    (32 ∷ (decimal m.place.row ++ (32 ∷ (decimal m.place.column ++ (32 ∷ word_of m.direction)))))
 
 -- the number of an atom's move
 abbrev pub numbered : Direction → Option ℕ → Option ℕ
@@ -45,6 +45,6 @@ abbrev pub atom_notation : Atoms → Notation Position AtomMove
 atom_notation l = record {
   game = game l;
   spelled = move_in;
-  named = λ p m. numbered m.direction (atom_at l p m.row m.column);
+  named = λ p m. numbered m.direction (atom_at l p m.place);
   line = λ p m. line_of l.board.width (slice_index p.cells (m / 4)) (direction_of (m % 4));
 }

@@ -21,26 +21,26 @@ use Rattle.atoms_ways.specs.Moves.{move_of, short, direction_in, move_in, move_t
 
 -- the bytes after the keyword
 abbrev said : AtomMove → List ℕ
-said m = 32 ∷ (decimal m.row ++ (32 ∷ (decimal m.column ++ (32 ∷ word_of m.direction))))
+said m = 32 ∷ (decimal m.place.row ++ (32 ∷ (decimal m.place.column ++ (32 ∷ word_of m.direction))))
 
 -- the line as it is written, part by part
-pub in_parts : (m : AtomMove) → move_text m ≡ codes "(move " ++ (decimal m.row ++ (codes " " ++ (decimal m.column ++ (codes " " ++ (word_of m.direction ++ codes ")")))))
+pub in_parts : (m : AtomMove) → move_text m ≡ codes "(move " ++ (decimal m.place.row ++ (codes " " ++ (decimal m.place.column ++ (codes " " ++ (word_of m.direction ++ codes ")")))))
 in_parts m =
-    let c = decimal m.column in
+    let c = decimal m.place.column in
     let w = word_of m.direction in
-    ap (λ x. codes "(move " ++ x) (append_assoc (decimal m.row) (32 ∷ (c ++ (32 ∷ w))) closing)
-    ∙ ap (λ x. codes "(move " ++ (decimal m.row ++ (32 ∷ x))) (append_assoc c (32 ∷ w) closing)
+    ap (λ x. codes "(move " ++ x) (append_assoc (decimal m.place.row) (32 ∷ (c ++ (32 ∷ w))) closing)
+    ∙ ap (λ x. codes "(move " ++ (decimal m.place.row ++ (32 ∷ x))) (append_assoc c (32 ∷ w) closing)
 
 -- the bytes of a move all pass a test that digits, blanks and words pass
 module _ (p : ℕ → Bool) (digits : (c : ℕ) → is_ascii_digit c ≡ true → p c ≡ true) where
-  whole_said : (m : AtomMove) → m.row < 100 → m.column < 100 → p 32 ≡ true → Whole p (word_of m.direction) → Whole p (said m)
+  whole_said : (m : AtomMove) → m.place.row < 100 → m.place.column < 100 → p 32 ≡ true → Whole p (word_of m.direction) → Whole p (said m)
   whole_said m high wide blank word =
-      let row = whole_digits p digits (decimal m.row) (digits_decimal own m.row (omega arith)) in
-      let column = whole_digits p digits (decimal m.column) (digits_decimal own m.column (omega arith)) in
+      let row = whole_digits p digits (decimal m.place.row) (digits_decimal own m.place.row (omega arith)) in
+      let column = whole_digits p digits (decimal m.place.column) (digits_decimal own m.place.column (omega arith)) in
       let one : Whole p (32 ∷ []) = ap (λ t. cond t (1 + 0) 0) blank in
       whole_append p (32 ∷ []) _ one
-      (whole_append p (decimal m.row) _ row
-      (whole_append p (32 ∷ []) _ one (whole_append p (decimal m.column) _ column (whole_append p (32 ∷ []) _ one word))))
+      (whole_append p (decimal m.place.row) _ row
+      (whole_append p (32 ∷ []) _ one (whole_append p (decimal m.place.column) _ column (whole_append p (32 ∷ []) _ one word))))
 
 word_inside : (d : Direction) → prefix_len inside (word_of d) ≡ length (word_of d)
 word_inside Up = refl
@@ -69,13 +69,13 @@ digit_inside c h = grind (arith, nat_tests)
 digit_line : (c : ℕ) → is_ascii_digit c ≡ true → in_line c ≡ true
 digit_line c h = grind (arith, nat_tests)
 
-module _ (m : AtomMove) (high : m.row < 100) (wide : m.column < 100) where
+module _ (m : AtomMove) (high : m.place.row < 100) (wide : m.place.column < 100) where
   arguments : Arguments (said m)
   arguments =
-      let digits = decimal_nonempty m.row (omega arith) in
+      let digits = decimal_nonempty m.place.row (omega arith) in
       record {
         blank = refl;
-        some = omega (arith, length-append (decimal m.row) (32 ∷ (decimal m.column ++ (32 ∷ word_of m.direction))));
+        some = omega (arith, length-append (decimal m.place.row) (32 ∷ (decimal m.place.column ++ (32 ∷ word_of m.direction))));
         within = whole_said inside digit_inside m high wide refl (word_inside m.direction);
       }
 
@@ -84,8 +84,8 @@ module _ (m : AtomMove) (high : m.row < 100) (wide : m.column < 100) where
 
   pub reads_back : move_in (move_text m) ≡ Some m
   reads_back =
-      let r = m.row in
-      let c = m.column in
+      let r = m.place.row in
+      let c = m.place.column in
       let d = m.direction in
       ap (λ o. o then number_in then (λ x. number_in x.1 then (λ y. direction_in y.1 then short x.0 y.0))) (forms_hold.arguments_all (codes "move") (said m) move arguments)
       ∙ ap (λ o. o then (λ x. number_in x.1 then (λ y. direction_in y.1 then short x.0 y.0))) (number_reads r (omega arith) (32 ∷ (decimal c ++ (32 ∷ word_of d))) refl)

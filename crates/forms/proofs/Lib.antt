@@ -1,4 +1,2 @@
-pub mod Blanks
 pub mod Words
 pub mod Laws
-pub mod Shapes

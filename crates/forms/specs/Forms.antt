@@ -38,6 +38,13 @@ None then f = None
 abbrev pub number_in : List ℕ → Option (ℕ × List ℕ)
 number_in l = after_blank l then piece_in then number_only
 
+abbrev pub short_only : ℕ × List ℕ → Option (ℕ × List ℕ)
+short_only (n, rest) = cond (nat_lt n 100) (Some (n, rest)) None
+
+-- one blank and a number of one or two digits, and what is left
+abbrev pub short_number_in : List ℕ → Option (ℕ × List ℕ)
+short_number_in l = number_in l then short_only
+
 -- a word, and what is left
 abbrev pub plain_word_in : List ℕ → Option (List ℕ × List ℕ)
 plain_word_in l = piece_in l then word_only

@@ -6,7 +6,7 @@ use pictures::Picture;
 mod drawing;
 
 /// A wanted molecule: a picture without walls, in which a free cell is indifferent.
-#[derive(Clone, Copy)]
+#[derive(Clone, Copy, Debug)]
 pub struct Molecule {
     picture: Picture,
     ghost unwalled: { Unwalled (shape picture) },

@@ -4,7 +4,7 @@ mod finding;
 
 /// The goal places of a molecule on a board: the cells on which its first cell may lie, from the topmost on, and in a
 /// row from the leftmost on.
-#[derive(Clone, Copy)]
+#[derive(Clone, Copy, Debug)]
 pub struct GoalPlaces {
     cells: [u8; 256],
     count: usize,

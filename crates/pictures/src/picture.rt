@@ -7,7 +7,7 @@ use grid::Grid;
 mod drawing;
 
 /// A rectangle of cells, 1 to 16 wide and at most 16 high, row by row.
-#[derive(Clone, Copy)]
+#[derive(Clone, Copy, Debug)]
 pub struct Picture {
     grid: Grid,
     cells: [Cell; 256],

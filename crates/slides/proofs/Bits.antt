@@ -1,54 +1,25 @@
 -- What one bit set in a word does to its bits, and to the cells of a set. Assumes nothing.
-use Rattle.std.proofs.Common.{◌≡◌, ℕ, suc, ◌+◌, ◌-◌, ◌*◌, ◌/◌, ◌%◌, ◌^◌, ◌<◌, max, Bool, false, cond, ◌||◌, eqb, ltb, List, length, get_or, set, replicate, sym, refl, ap, ◌∙◌, ⊎_elim, arith}
-use native.Mathlib.Nat.{div-eq_of_lt, div_self, zero-div}
-use lib.Bits.{bit_and, bit_or, or_step}
-use Rattle.std.proofs.lemmas.Nat.{pow-add, pow_below, pow_pos, and_mask, or_shr, shl-shr, one_shl}
+use Rattle.std.proofs.Common.{◌≡◌, ℕ, ◌*◌, ◌/◌, ◌%◌, ◌^◌, ◌<◌, Bool, false, cond, ◌||◌, eqb, ltb, w64, List, length, get_or, set, replicate, sym, refl, ap, ◌∙◌, subst, ⊎_elim, arith}
+use lib.Bits.{bit_and, bit_or}
+use Rattle.std.proofs.lemmas.Nat.Bits.{shr_and_one, bit_at-zero, bit_at_set_same, bit_at_set_other}
 use Rattle.std.proofs.lemmas.List.{get_or-set_same, get_or-set_other, get_or-replicate}
-use Rattle.std.proofs.lemmas.Bool.{cases_order, cases_eq, cond_both, ltb-true, eq-eqb, ne_eqb}
+use Rattle.std.proofs.lemmas.Bool.{cases_eq, cond_both, ltb-true, eq-eqb, ne_eqb}
 use Rattle.std.proofs.lemmas.Bool.Decides.{nat_tests}
 use Rattle.slides.specs.Sets.{bit}
 
 -- bit k of a word, as a shift and a mask read it
 pub bit_masked : (n k : ℕ) → eqb (bit_and (n / 2 ^ k) 1) 1 ≡ bit n k
-bit_masked n k = ap (λ b. eqb b 1) (and_mask (n / 2 ^ k) 1)
+bit_masked n k = ap (λ b. eqb b 1) (shr_and_one n k)
 
--- the number with only bit j has bit j, and no other
-one_same : (j : ℕ) → 2 ^ j / 2 ^ j % 2 ≡ 1
-one_same j = ap (λ n. n % 2) (div_self (pow_pos j))
-
-one_above : (j k : ℕ) → j < k → 2 ^ j / 2 ^ k % 2 ≡ 0
-one_above j k h = ap (λ n. n % 2) (div-eq_of_lt (pow_below j k h))
-
-one_below : (j k : ℕ) → k < j → 2 ^ j / 2 ^ k % 2 ≡ 0
-one_below j k h =
-    let m = j - suc k in
-    let more : j ≡ 1 + m + k = omega arith in
-    let low : 2 ^ j / 2 ^ k ≡ 2 ^ (1 + m) =
-    ap (λ i. 2 ^ i / 2 ^ k) more ∙ ap (λ n. n / 2 ^ k) (pow-add 2 (1 + m) k) ∙ shl-shr (2 ^ (1 + m)) k in
-    omega (arith, pow-add 2 1 m)
-
-bit_one : (j k : ℕ) → bit (2 ^ j) k ≡ eqb k j
-bit_one j k =
+-- the bits of a word in which bit j is set
+bit_set : (n j k : ℕ) → j < 64 → bit (bit_or n (1 * 2 ^ j % 2 ^ 64)) k ≡ (eqb k j || bit n k)
+bit_set n j k h =
     ⊎_elim
-    (λ same. eq-eqb _ _ (ap (λ i. 2 ^ j / 2 ^ i % 2) same ∙ one_same j) ∙ sym (eq-eqb k j same))
-    (⊎_elim
-    (λ below. let none = one_below j k below in grind (arith, nat_tests))
-    (λ above. let none = one_above j k above in grind (arith, nat_tests)))
-    (cases_order k j)
-
--- bit k of two numbers together
-either : (x y : ℕ) → x < 2 → y < 2 → eqb (max x y) 1 ≡ (eqb y 1 || eqb x 1)
-either x y hx hy = grind (arith, nat_tests)
-
-bit_or_lem : (a b k : ℕ) → bit (bit_or a b) k ≡ (bit b k || bit a k)
-bit_or_lem a b k =
-    let x = a / 2 ^ k in
-    let y = b / 2 ^ k in
-    let low : bit_or a b / 2 ^ k % 2 ≡ max (x % 2) (y % 2) = ap (λ n. n % 2) (or_shr a b k ∙ or_step x y) ∙ omega arith in
-    ap (λ n. eqb n 1) low ∙ either (x % 2) (y % 2) (omega arith) (omega arith)
-
-bit_zero : (k : ℕ) → bit 0 k ≡ false
-bit_zero k = ap (λ n. eqb (n % 2) 1) (zero-div (2 ^ k))
+    (λ same.
+    let here = ap (λ b. eqb b 1) (bit_at_set_same w64 n j h) ∙ sym (ap (λ b. b || bit n j) (eq-eqb j j refl)) in
+    subst (λ i. bit (bit_or n (1 * 2 ^ j % 2 ^ 64)) i ≡ (eqb i j || bit n i)) (sym same) here)
+    (λ apart. ap (λ b. eqb b 1) (bit_at_set_other w64 n j h k apart) ∙ sym (ap (λ b. b || bit n k) (ne_eqb k j apart)))
+    (cases_eq k j)
 
 -- no cell is in four empty words
 pub none_in : (k : ℕ) → cond (ltb k 256) (bit (get_or (replicate 4 0) (k / 64) 0) (k % 64)) false ≡ false
@@ -56,7 +27,7 @@ none_in k =
     cond_both (ltb k 256) (bit (get_or (replicate 4 0) (k / 64) 0) (k % 64)) false (λ b. b ≡ false)
     (λ e.
     let h = ltb-true k 256 e in
-    ap (λ n. bit n (k % 64)) (get_or-replicate 4 (k / 64) 0 0 (omega arith)) ∙ bit_zero (k % 64))
+    ap (λ n. bit n (k % 64)) (get_or-replicate 4 (k / 64) 0 0 (omega arith)) ∙ ap (λ b. eqb b 1) (bit_at-zero (k % 64)))
     (λ e. refl)
 
 -- a cell past all is in neither set
@@ -76,12 +47,10 @@ module _ (ws : List ℕ) (cell : ℕ) (four : length ws ≡ 4) (small : cell < 2
       let n = (1 * 2 ^ (cell % 64)) % 2 ^ 64 in
       let here : get_or more (k / 64) 0 ≡ bit_or (get_or ws (k / 64) 0) n =
       ap (λ i. get_or more i 0) same ∙ get_or-set_same ws (cell / 64) _ 0 (omega arith) ∙ ap (λ i. bit_or (get_or ws i 0) n) (sym same) in
-      let alone : bit n (k % 64) ≡ eqb (k % 64) (cell % 64) =
-      ap (λ m. bit m (k % 64)) (one_shl (cell % 64) 64 (omega arith)) ∙ bit_one (cell % 64) (k % 64) in
       let whole : eqb (k % 64) (cell % 64) ≡ eqb k cell = grind (arith, nat_tests) in
       ap (λ m. bit m (k % 64)) here
-      ∙ bit_or_lem (get_or ws (k / 64) 0) n (k % 64)
-      ∙ ap (λ b. b || bit (get_or ws (k / 64) 0) (k % 64)) (alone ∙ whole)
+      ∙ bit_set (get_or ws (k / 64) 0) (cell % 64) (k % 64) (omega arith)
+      ∙ ap (λ b. b || bit (get_or ws (k / 64) 0) (k % 64)) whole
 
   also_other : (k : ℕ) → (k / 64 ≡ cell / 64 → ⊥) → Also k
   also_other k apart =

@@ -22,10 +22,6 @@ pub fn slide(grid: Grid, blocked: &CellSet, from: usize, direction: Direction) -
 fn free_neighbour(grid: Grid, blocked: &CellSet, cell: usize, direction: Direction) -> Option<usize>
     ensures { result ≡ next grid.width grid.height (has blocked.now) direction cell }
 {
-    let next = grid.neighbour(cell, direction)?;
-    if blocked.contains(next) {
-        None
-    } else {
-        Some(next)
-    }
+    grid.neighbour(cell, direction)
+        .filter(|&next| !blocked.contains(next))
 }

@@ -1,8 +1,8 @@
--- Lines: one byte more, and a text cut at its line ends. Assumes nothing.
-use Rattle.std.proofs.Common.{◌≡◌, ℕ, suc, ◌+◌, ◌^◌, ◌<◌, ◌≤◌, Bool, true, false, cond, not, ◌&&◌, eqb, ltb, List, [], ◌∷◌, ◌++◌, length, get_or, take, drop, Some, None, Ok, Err, decimal, Option, Result, sym, refl, ap, ◌∙◌, one-add, arith}
+-- Lines: a text cut at its line ends. Assumes nothing.
+use Rattle.std.proofs.Common.{◌≡◌, ℕ, suc, ◌+◌, ◌^◌, ◌<◌, ◌≤◌, Bool, true, false, cond, not, eqb, ltb, List, [], ◌∷◌, ◌++◌, length, take, drop, Some, None, Ok, Err, decimal, Option, Result, sym, refl, ap, ◌∙◌, one-add, arith}
 use Rattle.std.specs.List.{AllByRecursion as All}
 use Rattle.std.specs.List.{prefix_len}
-use Rattle.std.proofs.lemmas.List.{at_drop_more, drop-take, drop-drop, length-drop, length-take-le}
+use Rattle.std.proofs.lemmas.List.{drop-take, drop-drop, length-drop, length-take-le}
 use Rattle.std.specs.Char.{is_ascii_digit}
 use Rattle.std.proofs.lemmas.Fmt.{digits_decimal}
 use Rattle.std.proofs.lemmas.Bool.{ltb-true, ltb-false}
@@ -12,11 +12,7 @@ use Rattle.text.proofs.Whole.{whole_append, whole_digits}
 use Rattle.std.proofs.lemmas.List.Sums.{prefix_len-le-length}
 use Rattle.text.proofs.Cases.{never, parts}
 use Rattle.text.specs.declared.line.Line.{Line}
-use Rattle.text.specs.Lines.{text_byte, all_text, split, before, in_line, OneLine, line_end, line_at, told, bytes, join_lines, Reading, reading, read_lines}
-
--- one byte more
-pub all_text_more : (t : List ℕ) (i : ℕ) (b : Bool) → i < length t → b ≡ text_byte (get_or t i 0) → all_text (drop i t) ≡ (b && all_text (drop (i + 1) t))
-all_text_more t i b h e = at_drop_more all_text t i 0 h ∙ ap (λ x. x && all_text (drop (i + 1) t)) (sym e)
+use Rattle.text.specs.Lines.{split, before, in_line, OneLine, line_end, line_at, told, bytes, join_lines, Reading, reading, read_lines}
 
 -- parts of one line make one line
 pub one_line_append : (a b : List ℕ) → OneLine a → OneLine b → OneLine (a ++ b)

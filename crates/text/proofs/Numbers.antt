@@ -1,19 +1,15 @@
 -- What `decimal` writes is read again, and nothing else is read. Assumes nothing.
-use Rattle.std.proofs.Common.{◌≡◌, ℕ, zero, suc, ◌+◌, ◌-◌, ◌*◌, ◌/◌, ◌%◌, ◌^◌, ◌<◌, Bool, true, ◌&&◌, List, [], ◌∷◌, ◌++◌, length, get_or, drop, Some, None, decimal, Option, sym, refl, ap, ◌∙◌, ⊎_elim, append_assoc, append-nil, arith, rules}
+use Rattle.std.proofs.Common.{◌≡◌, ℕ, zero, suc, ◌+◌, ◌-◌, ◌*◌, ◌/◌, ◌%◌, ◌^◌, ◌<◌, Bool, true, ◌&&◌, List, [], ◌∷◌, ◌++◌, length, get_or, Some, None, decimal, Option, sym, refl, ap, ◌∙◌, ⊎_elim, append_assoc, append-nil, arith, rules}
 use Rattle.std.specs.Char.{is_ascii_digit}
 use Rattle.std.specs.Str.{all_ascii_digits}
 use Rattle.std.proofs.lemmas.Fmt.{decimal_by_steps, first_decimal, decimal_nonempty, decimal_digit, decimal-digits_value}
 use Rattle.std.proofs.lemmas.Str.Parse.{IsNumeralModel, numerals_by_fold}
-use Rattle.std.proofs.lemmas.List.{at_drop_more}
 use Rattle.std.proofs.lemmas.Bool.{cases_eq}
 use Rattle.std.proofs.lemmas.Bool.Decides.{nat_tests}
 use Rattle.text.specs.Numbers.{digit, onto, digits_after, read_number, NumbersReadBack}
 
 abbrev goes : List ℕ → Option ℕ → Option ℕ
 goes rest o = elim o [ Some m ↦ digits_after m rest | None ↦ None ]
-
-pub step : (n : ℕ) (text : List ℕ) (i : ℕ) (o : Option ℕ) → i < length text → o ≡ onto n (digit (get_or text i 0)) → digits_after n (drop i text) ≡ goes (drop (i + 1) text) o
-step n text i o h e = at_drop_more (digits_after n) text i 0 h ∙ ap (goes (drop (i + 1) text)) (sym e)
 
 -- one digit more
 on : (n d : ℕ) → n < 1000000 → d < 10 → onto n (digit (48 + d)) ≡ Some (n * 10 + d)

@@ -1,4 +1,4 @@
-ghost use Rattle.std.specs.Prelude.{ℕ, ◌+◌, ◌<◌, List, Result, IfOk};
+ghost use Rattle.std.specs.Prelude.{ℕ, ◌<◌, List, Result, IfOk};
 ghost use Rattle.text.specs.Lines.{bytes, split};
 ghost use Rattle.text.specs.Reading.{ReadsLines, told_read};
 
@@ -9,16 +9,11 @@ use super::numbered::Lines;
 pub trait LineReader: Sized {
     type Error;
 
-    /// What holds of a state before the line of a number.
-    ghost Ready: { Self → ℕ → Type 0 } = { λ _ _. Unit {0} };
-
     /// What a state makes of the line of a number: the next state or an error.
     ghost Takes: { Self → ℕ → List ℕ → Result Self Self.Error → Type 0 };
 
     fn take(self, line: Line, number: usize) -> Result<Self, Self::Error>
-        requires { Ready self number }
-        ensures takes { Takes self number (bytes line.entry) result }
-        ensures ready { IfOk result (λ next. Ready next (number + 1)) };
+        ensures { Takes self number (bytes line.entry) result };
 }
 
 /// A text whose lines were all taken.
@@ -34,10 +29,8 @@ pub struct ReadText<'a, R> {
 
 /// Takes the lines of a text one after the other, the first with number 1, and stops where one is refused.
 pub fn read_lines<'a, R: LineReader>(start: R, text: &'a [u8]) -> Result<ReadText<'a, R>, R::Error>
-    requires { R.Ready start 1 }
     ensures reads { ReadsLines R.Takes start 1 (split text.now) (told_read result) }
     ensures numbered { IfOk result (λ read. 0 < read.number) }
-    ensures ready { IfOk result (λ read. R.Ready read.reader read.number) }
 {
     let mut reader = start;
     let mut lines = Lines::of(text);

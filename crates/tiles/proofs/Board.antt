@@ -99,8 +99,8 @@ pow_bits (suc i) =
     let more : 4 + 4 * i ≡ 4 * suc i = omega arith in
     pow-succ' 16 i ∙ ap (λ k. 16 * k) (pow_bits i) ∙ sym (pow-add 2 4 (4 * i)) ∙ ap (λ k. 2 ^ k) more
 
-pub get_d_bits : (p i : ℕ) → i < 16 → bit_and (p / 2 ^ (4 * i)) 15 ≡ get_or (cells p) i 0
-get_d_bits p i h =
+pub cell_bits : (p i : ℕ) → i < 16 → bit_and (p / 2 ^ (4 * i)) 15 ≡ get_or (cells p) i 0
+cell_bits p i h =
     and_mask (p / 2 ^ (4 * i)) 4
     ∙ ap (λ k. p / k % 16) (sym (pow_bits i))
     ∙ sym (ap (λ ts. get_or ts i 0) (cells_unpacked p) ∙ get_or_unpacked 16 p i h)

@@ -22,6 +22,7 @@ listed_below ts k c h is =
     let number : c.0 ≡ 0 + k = ap (λ p. p.0) (is ∙ get_or-enumerate_from 0 ts k c (omega arith)) in
     omega arith
 
+-- whether each tile is at home, asked of the cells with their numbers
 pub home_listed : (n i : ℕ) (ts : List ℕ) → list_all (λ (c : ℕ × ℕ). eqb c.1 (home n c.0)) (enumerate_from i ts) ≡ home_from n i ts
 home_listed n i [] = refl
 home_listed n i (t ∷ ts) = ap (λ b. eqb t (home n i) && b) (home_listed n (i + 1) ts)
@@ -31,4 +32,10 @@ pub once_decides : (us : List ℕ) (n : ℕ) (r : Bool) → r ≡ list_all (λ k
 once_decides us n r e =
     let Once : ℕ → Type 0 = λ k. count_by (eqb k) us ≡ 1 in
     let each = Decides-by_and (λ k. eqb (count_by (eqb k) us) 1) Once (list_all (λ k. eqb (count_by (eqb k) us) 1)) (λ k. Decides-eqb _ 1) refl (λ _ _. refl) (range_with_len 0 n) in
-    Decides-at r _ e (Decides-like _ (λ all k h. subst Once (get_or-range_with_len 0 n k 0 h ∙ zero-add k) (all k 0 (omega (arith, length-range_with_len 0 n)))) (λ all k d h. let low : k < n = omega (arith, length-range_with_len 0 n) in subst Once (sym (get_or-range_with_len 0 n k d low ∙ zero-add k)) (all k low)) each)
+    let long = length-range_with_len 0 n in
+    let number = λ (k d : ℕ) (h : k < n). get_or-range_with_len 0 n k d h ∙ zero-add k in
+    Decides-at r _ e
+    (Decides-like _
+    (λ all k h. subst Once (number k 0 h) (all k 0 (omega arith)))
+    (λ all k d h. let low : k < n = omega arith in subst Once (sym (number k d low)) (all k low))
+    each)

@@ -30,7 +30,7 @@ module _ (l : Tiles) (p q m : ℕ) where
     names = ap Some (number_of_direction_of m d is);
     whole = rw is (one_line d);
   }
-  spells None _ never = let z : ◌≡◌ {A = ℕ} 0 1 = cc in absurd (omega arith)
+  spells None _ never = absurd (cc)
 
 pub lawful : (l : Tiles) → Lawful (tile_notation l)
 lawful l = record {

@@ -100,20 +100,30 @@ module _ {P W : Type 0} (k : Notation P W) where
   pub one_pass : (t : List ℕ) → concluded k (read_lines (taken k) Head 1 (split t)) ≡ judged k t
   one_pass t = one_pass_parts (split t)
 
--- what readers make of a line, each for a kind of level, and what the judgement makes of what they make of a text
-module _ {S B P W : Type 0} (notation_of : B → Notation P W) (kind_of : S → B) (view : S → Progress P) where
+-- what readers make of a line, each for a kind of level, and what the judgement makes of what they make of a text;
+-- Holds is what each line keeps true of a reader
+module _ {S B P W : Type 0} (notation_of : B → Notation P W) (kind_of : S → B) (view : S → Progress P) (Holds : S → ℕ → Type 0) where
   abbrev Takes : S → ℕ → List ℕ → Result S Refusal → Type 0
-  Takes s n l r = (seen view r ≡ taken (notation_of (kind_of s)) (view s) n l) × IfOk r (λ t. kind_of t ≡ kind_of s)
+  Takes s n l r = Holds s n → (seen view r ≡ taken (notation_of (kind_of s)) (view s) n l) × IfOk r (λ t. (kind_of t ≡ kind_of s) × Holds t (n + 1))
 
   module _ (kind : B) where
     abbrev taken_by : Progress P → ℕ → List ℕ → Result (Progress P) Refusal
     taken_by = taken (notation_of kind)
 
-    follows : (s : S) (n : ℕ) (l : List ℕ) (r : Result S Refusal) → kind_of s ≡ kind → Takes s n l r → (seen view r ≡ taken_by (view s) n l) × IfOk r (λ t. kind_of t ≡ kind)
-    follows s n l (Ok t) same takes = (takes.0 ∙ ap (λ b. taken (notation_of b) (view s) n l) same, takes.1 ∙ same)
-    follows s n l (Err e) same takes = (takes.0 ∙ ap (λ b. taken (notation_of b) (view s) n l) same, tt)
+    abbrev Fine : S → ℕ → Type 0
+    Fine s n = (kind_of s ≡ kind) × Holds s n
 
-    pub judged_by : (start : S) → kind_of start ≡ kind → view start ≡ Head → (t : List ℕ) (r : Result (Reading S) Refusal) → ReadsLines Takes start 1 (split t) r → (concluded (notation_of kind) (seen_reading view r) ≡ judged (notation_of kind) t) × IfOk r (λ x. kind_of x.state ≡ kind)
-    judged_by start same head t r reads =
-        let all = reads_as Takes taken_by view (λ s n. kind_of s ≡ kind) follows start 1 same (split t) r reads in
-        (ap (concluded (notation_of kind)) (all.0 ∙ ap (λ s. read_lines taken_by s 1 (split t)) head) ∙ one_pass (notation_of kind) t, all.1)
+    follows : (s : S) (n : ℕ) (l : List ℕ) (r : Result S Refusal) → Fine s n → Takes s n l r → (seen view r ≡ taken_by (view s) n l) × IfOk r (λ t. Fine t (n + 1))
+    follows s n l (Ok t) fine takes =
+        let one = takes fine.1 in
+        (one.0 ∙ ap (λ b. taken (notation_of b) (view s) n l) fine.0, (one.1.0 ∙ fine.0, one.1.1))
+    follows s n l (Err e) fine takes = ((takes fine.1).0 ∙ ap (λ b. taken (notation_of b) (view s) n l) fine.0, tt)
+
+    pub judged_by : (start : S) → kind_of start ≡ kind → Holds start 1 → view start ≡ Head → (t : List ℕ) (r : Result (Reading S) Refusal) → ReadsLines Takes start 1 (split t) r → (concluded (notation_of kind) (seen_reading view r) ≡ judged (notation_of kind) t) × IfOk r (λ x. kind_of x.state ≡ kind)
+    judged_by start same holds head t r reads =
+        let all = reads_as Takes taken_by view Fine follows start 1 (same, holds) (split t) r reads in
+        (ap (concluded (notation_of kind)) (all.0 ∙ ap (λ s. read_lines taken_by s 1 (split t)) head) ∙ one_pass (notation_of kind) t, led r all.1)
+      where
+        led : (r : Result (Reading S) Refusal) → IfOk r (λ x. Fine x.state x.line) → IfOk r (λ x. kind_of x.state ≡ kind)
+        led (Ok x) fine = fine.0
+        led (Err e) fine = tt

@@ -1,4 +1,4 @@
-ghost use Rattle.std.specs.Prelude.{◌≡◌, ◌<◌, IfOk};
+ghost use Rattle.std.specs.Prelude.{◌≡◌, ◌+◌, ◌<◌, IfOk};
 ghost use Rattle.std.specs.Coded.{Coded-set};
 ghost use Rattle.text.specs.Reading.{seen};
 ghost use Rattle.ways.specs.Judging.{judged, AcceptsExactly};
@@ -24,9 +24,7 @@ struct WayReader<'a, K: Kind> {
 impl<'a, K: Kind> LineReader for WayReader<'a, K> {
     type Error = Refusal;
 
-    ghost Ready = { λ s n. IsCounted s.progress n };
-
-    ghost Takes = { λ s n l r. (seen (λ next. placed (λ walk. walk.position) next.progress) r ≡ taken (K.Kind.notation s.kind.now) (placed (λ walk. walk.position) s.progress) n l) × IfOk r (λ next. next.kind ≡ s.kind) };
+    ghost Takes = { λ s n l r. IsCounted s.progress n → (seen (λ next. placed (λ walk. walk.position) next.progress) r ≡ taken (K.Kind.notation s.kind.now) (placed (λ walk. walk.position) s.progress) n l) × IfOk r (λ next. (next.kind ≡ s.kind) × IsCounted next.progress (n + 1)) };
 
     // The form is judged at once; of the moves only the first refusal is kept, since a line out of form comes before
     // all else.

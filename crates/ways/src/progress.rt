@@ -29,14 +29,13 @@ pub(crate) enum Progress<W> {
 impl<'a, K: Kind> Made<Walk<'a, K>> {
     // One move more, as it is written on a line.
     pub(crate) fn with_move(self, written: &K::Written, line: usize) -> Self
-        requires { self.count + 1 < 2 ^ 64 }
         ensures announced { result.announced ≡ self.entry.announced }
-        ensures counts { result.count ≡ self.entry.count + 1 }
+        ensures counts { self.entry.count + 1 < 2 ^ 64 → result.count ≡ self.entry.count + 1 }
         ensures leads { MatchResult self.entry.led (λ walk. (seen (λ next. next.position) result.led ≡ followed (K.Kind.notation walk.kind.now) walk.position line written.now) × IfOk result.led (λ next. next.kind ≡ walk.kind)) (λ refusal. result.led ≡ Err refusal) }
     {
         Made {
             announced: self.announced,
-            count: self.count + 1,
+            count: self.count.saturating_add(1),
             led: self.led.and_then(|walk| walk.follow(written, line)),
         }
     }

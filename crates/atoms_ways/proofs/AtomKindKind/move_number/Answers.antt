@@ -5,7 +5,7 @@ use Rattle.atoms_ways.proofs.AtomKindKind.move_number.Goals as goal
 use Rattle.atoms_ways.proofs.AtomKindKind.move_number.Goals.{In_ok-atom}
 
 few : (c : In_ok-atom) → c.in_ok-atom.atom < 16
-few c = few_atoms c.args.self.now.0 c.args.at.now c.args.written.now.row c.args.written.now.column _ c.in_ok-atom.ensures
+few c = few_atoms c.args.self.now.0 c.args.at.now c.args.written.now.place _ c.in_ok-atom.ensures
 
 pub overflow_mul-result : goal.overflow_mul-result
 overflow_mul-result c = omega (arith, few c)

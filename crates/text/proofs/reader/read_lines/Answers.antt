@@ -1,4 +1,3 @@
-use Rattle.std.proofs.Common.{◌+◌, sym, ap, ◌∙◌, subst}
 use Rattle.std.proofs.lemmas.Result.{err_from_is_err_and}
 use Rattle.text.proofs.Taking.{line_taken, line_refused}
 use Rattle.text.proofs.reader.read_lines.Goals as goal
@@ -7,13 +6,12 @@ pub returns-in_err-reader-clause-reads : goal.returns-in_err-reader-clause-reads
 returns-in_err-reader-clause-reads g c =
     let p = err_from_is_err_and c.from_residual.result c.from_residual.ensures.1 in
     rw (p.1, p.2)
-    (c.loop-number.invariant.2 _ (line_refused g.R.LineReader.Takes _ c.loop-number.lines c.next.new.self c.in-Some.number c.in-Some.line c.in-Some.ensures.steps _ c.in_err-reader.ensures.takes))
+    (c.loop-number.invariant.2 _ (line_refused g.R.LineReader.Takes _ c.loop-number.lines c.next.new.self c.in-Some.number c.in-Some.line c.in-Some.ensures.steps _ c.in_err-reader.ensures))
 
 pub loop-number-preserved : goal.loop-number-preserved
 loop-number-preserved g c =
     let step = c.in-Some.ensures.steps in (
       tt,
       tt,
-      λ r more. c.loop-number.invariant.2 r (line_taken g.R.LineReader.Takes _ c.loop-number.lines c.next.new.self c.in-Some.number c.in-Some.line step _ c.in_ok-reader.ensures.takes r more),
-      subst (g.R.LineReader.Ready c.in_ok-reader.reader) (ap (λ n. n + 1) step.0 ∙ sym step.1) c.in_ok-reader.ensures.ready,
+      λ r more. c.loop-number.invariant.2 r (line_taken g.R.LineReader.Takes _ c.loop-number.lines c.next.new.self c.in-Some.number c.in-Some.line step _ c.in_ok-reader.ensures r more),
     )

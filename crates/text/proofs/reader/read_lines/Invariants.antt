@@ -7,5 +7,4 @@ abbrev pub invariant-loop-number : goal.invariant-loop-number
 invariant-loop-number g l =
     (goal.iterator-loop-number g).can_next l.lines ×
     (goal.iterator-loop-number g).is_finite l.lines ×
-    ((r : _) → ReadsLines g.R.LineReader.Takes l.reader l.lines.number (parts l.lines) r → ReadsLines g.R.LineReader.Takes l.fn.start 1 (split l.text) r) ×
-    g.R.LineReader.Ready l.reader l.lines.number
+    ((r : _) → ReadsLines g.R.LineReader.Takes l.reader l.lines.number (parts l.lines) r → ReadsLines g.R.LineReader.Takes l.fn.start 1 (split l.text) r)

@@ -12,7 +12,10 @@ pub all-requires-clause-callable : goal.all-requires-clause-callable
 all-requires-clause-callable c =
     let ts = unpacked c.cells-count.result c.args.position in
     let listed = YieldsList-from_enumerate (YieldsList-from_first (λ t. t) cells_left ts (ap cells_left c.enumerate.ensures.source ∙ c.new.ensures)) c.enumerate.ensures.count in
-    serves_from_places listed (λ x q r. search (rules, tests)) (λ x k h is. let on : x.0 < c.cells-count.result = omega (arith, listed_below ts k x h is, length_unpacked c.cells-count.result c.args.position) in search rules)
+    serves_from_places listed (λ x q r. search (rules, tests))
+    (λ x k h is.
+    let on : x.0 < c.cells-count.result = omega (arith, listed_below ts k x h is, length_unpacked c.cells-count.result c.args.position) in
+    search rules)
 
 pub returns : goal.returns
 returns c =
