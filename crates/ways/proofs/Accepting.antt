@@ -1,5 +1,5 @@
 -- The judge accepts exactly the ways that are in form, legal, and end at the finish. Assumes nothing.
-use Rattle.std.proofs.Common.{◌≡◌, ℕ, ◌+◌, Bool, true, false, cond, eqb, List, [], ◌∷◌, ◌++◌, map, length, Some, None, Ok, Err, Option, Result, sym, refl, ap, ◌∙◌, arith, lit<}
+use Rattle.std.proofs.Common.{◌≡◌, ℕ, ◌+◌, Bool, true, false, cond, eqb, List, [], ◌∷◌, ◌++◌, map, length, Some, None, Ok, Err, Option, Result, sym, refl, ap, ◌∙◌, lit<}
 use Rattle.std.proofs.lemmas.Slice.Eq.{bytes_eq-Decides}
 use Rattle.std.proofs.lemmas.List.{nil_from_length}
 use Rattle.std.proofs.lemmas.Bool.{eqb-true, eq-eqb, cond-true, cond-false}
@@ -9,7 +9,6 @@ use Rattle.refusals.specs.Refusals.{refusal}
 use Rattle.text.specs.Lines.{split}
 use Rattle.text.specs.Pieces.{Keyword}
 use Rattle.forms.specs.Forms.{count_of, count_line, closing, is_closing}
-use Rattle.text.proofs.Cases.{never, clash}
 use Rattle.forms.proofs.Laws.{forms_hold}
 use Rattle.ways.specs.Kinds.{Notation, Lawful}
 use Rattle.ways.specs.Judging.{way, ends_at, with_move, moves_from, followed, follow_all, counted, judged_as, judged_parts, judged, Follows, ends, goes, Accepted, AcceptsExactly}
@@ -27,19 +26,19 @@ module _ {P W : Type 0} (k : Notation P W) (lawful : Lawful k) where
 
   with_move_lem : (w : W) (r : Result (List W) ℕ) (ws : List W) → with_move k w r ≡ Ok ws → (vs : List W) × (r ≡ Ok vs) × (w ∷ vs ≡ ws)
   with_move_lem w (Ok vs) ws e = let same : w ∷ vs ≡ ws = cc in (vs, refl, same)
-  with_move_lem w (Err j) ws e = absurd (clash ws j e)
+  with_move_lem w (Err j) ws e = absurd (cc)
 
   ends_only : (i : ℕ) (m : List ℕ) (ms : List (List ℕ)) (ws : List W) → ends_at k i (m ∷ ms) ≡ Ok ws → (m ∷ ms ≡ [] ∷ []) × ([] ≡ ws)
   ends_only i m [] ws e = by (eqb (length m) 0) refl e
     where
       by : (b : Bool) → eqb (length m) 0 ≡ b → ◌≡◌ {A = Result (List W) ℕ} (cond b (Ok []) (Err i)) (Ok ws) → (m ∷ [] ≡ [] ∷ []) × ([] ≡ ws)
       by true p q = let same : [] ≡ ws = cc in (ap (λ l. l ∷ []) (nil_from_length m (eqb-true _ _ p)), same)
-      by false p q = absurd (clash ws i q)
-  ends_only i m (l ∷ ls) ws e = absurd (clash ws i e)
+      by false p q = absurd (cc)
+  ends_only i m (l ∷ ls) ws e = absurd (cc)
 
   moves_only : (i : ℕ) (parts : List (List ℕ)) (ws : List W) → moves_from k i parts ≡ Ok ws → Read parts ws
-  moves_only i [] ws e = absurd (clash ws i e)
-  moves_only i (l ∷ []) ws e = absurd (clash ws i e)
+  moves_only i [] ws e = absurd (cc)
+  moves_only i (l ∷ []) ws e = absurd (cc)
   moves_only i (l ∷ m ∷ ms) ws e = by (is_closing l) (k.spelled l) refl refl e (moves_only (i + 1) (m ∷ ms))
     where
       by : (b : Bool) (o : Option W) → is_closing l ≡ b → k.spelled l ≡ o → ◌≡◌ {A = Result (List W) ℕ} (cond b (ends_at k (i + 1) (m ∷ ms)) (elim o [ Some w ↦ with_move k w (moves_from k (i + 1) (m ∷ ms)) | None ↦ Err i ])) (Ok ws) → ((vs : List W) → moves_from k (i + 1) (m ∷ ms) ≡ Ok vs → Read (m ∷ ms) vs) → Read (l ∷ m ∷ ms) ws
@@ -58,23 +57,23 @@ module _ {P W : Type 0} (k : Notation P W) (lawful : Lawful k) where
             form = ap (λ x. l ∷ x) h.form;
             spelt = ap (λ o. o ∷ map k.spelled h.lines) q ∙ ap (λ x. Some w ∷ x) h.spelt ∙ ap (map Some) r.2;
           }
-      by false None p q e more = absurd (clash ws i e)
+      by false None p q e more = absurd (cc)
 
   follows_only : (p : P) (i : ℕ) (ws : List W) (q : P) → follow_all k p i ws ≡ Ok q → Follows k p ws
   follows_only p i [] q e = by (k.game.finished p) refl e
     where
       by : (b : Bool) → k.game.finished p ≡ b → ◌≡◌ {A = Result P Refusal} (cond b (Ok p) (Err (refusal NotFinished i))) (Ok q) → Follows k p []
       by true h e = ends h
-      by false h e = absurd (clash q _ e)
+      by false h e = absurd (cc)
   follows_only p i (w ∷ ws) q e = by (followed k p i w) refl e (λ s. follows_only s (i + 1) ws q)
     where
       by : (r : Result P Refusal) → followed k p i w ≡ r → ◌≡◌ {A = Result P Refusal} (elim r [ Ok s ↦ follow_all k s (i + 1) ws | Err x ↦ Err x ]) (Ok q) → ((s : P) → follow_all k s (i + 1) ws ≡ Ok q → Follows k s ws) → Follows k p (w ∷ ws)
       by (Ok s) h e more = let l = followed_legal k lawful p i w s h in goes l.unfinished l.named l.leads (more s e)
-      by (Err x) h e more = absurd (clash q x e)
+      by (Err x) h e more = absurd (cc)
 
   counted_only : (c n : ℕ) (r : Result P Refusal) → counted k c r ≡ Ok n → (q : P) × (r ≡ Ok q) × (c ≡ n)
   counted_only c n (Ok q) e = let same : c ≡ n = cc in (q, refl, same)
-  counted_only c n (Err x) e = absurd (clash n x e)
+  counted_only c n (Err x) e = absurd (cc)
 
   record Judged (n : ℕ) (ws : List W) : Type 0 where
     count : length ws ≡ n
@@ -87,11 +86,11 @@ module _ {P W : Type 0} (k : Notation P W) (lawful : Lawful k) where
       by true p e =
           let r = counted_only c n (follow_all k k.game.start 2 ws) e in
           (r.2, record { count = sym (eqb-true c (length ws) p) ∙ r.2; legal = follows_only k.game.start 2 ws r.0 r.1 })
-      by false p e = absurd (clash n _ e)
+      by false p e = absurd (cc)
 
   accepted_parts : (text : List ℕ) (n : ℕ) (parts : List (List ℕ)) → split text ≡ parts → judged_parts k parts ≡ Ok n → Accepted k text n
-  accepted_parts text n [] s e = absurd (clash n _ e)
-  accepted_parts text n (l ∷ []) s e = absurd (clash n _ e)
+  accepted_parts text n [] s e = absurd (cc)
+  accepted_parts text n (l ∷ []) s e = absurd (cc)
   accepted_parts text n (l ∷ m ∷ ms) s e = by (count_of way l) (moves_from k 2 (m ∷ ms)) refl refl e
     where
       by : (o : Option ℕ) (r : Result (List W) ℕ) → count_of way l ≡ o → moves_from k 2 (m ∷ ms) ≡ r → ◌≡◌ {A = Result ℕ Refusal} (elim o [ Some c ↦ judged_as k c r | None ↦ Err (refusal WayForm 1) ]) (Ok n) → Accepted k text n
@@ -108,8 +107,8 @@ module _ {P W : Type 0} (k : Notation P W) (lawful : Lawful k) where
             small = head.1;
             legal = j.1.legal;
           }
-      by (Some c) (Err i) p q e = absurd (clash n _ e)
-      by None r p q e = absurd (clash n _ e)
+      by (Some c) (Err i) p q e = absurd (cc)
+      by None r p q e = absurd (cc)
 
   -- the other way
 
@@ -128,7 +127,7 @@ module _ {P W : Type 0} (k : Notation P W) (lawful : Lawful k) where
   not_closing l w e = by (is_closing l) refl
     where
       by : (b : Bool) → is_closing l ≡ b → b ≡ false
-      by true p = absurd (never w (sym lawful.unclosed ∙ ap k.spelled (sym ((bytes_eq-Decides l closing).0 p)) ∙ e))
+      by true p = let none : ◌≡◌ {A = Option W} None (Some w) = sym lawful.unclosed ∙ ap k.spelled (sym ((bytes_eq-Decides l closing).0 p)) ∙ e in absurd (cc)
       by false p = refl
 
   -- what follows a line is never empty
@@ -148,8 +147,8 @@ module _ {P W : Type 0} (k : Notation P W) (lawful : Lawful k) where
 
   moves_all : (i : ℕ) (lines : List (List ℕ)) (ws : List W) → map k.spelled lines ≡ map Some ws → moves_from k i (lines ++ (closing ∷ ([] ∷ []))) ≡ Ok ws
   moves_all i [] [] e = refl
-  moves_all i [] (w ∷ ws) e = absurd (let z : ◌≡◌ {A = ℕ} 0 1 = cc in omega arith)
-  moves_all i (l ∷ ls) [] e = absurd (let z : ◌≡◌ {A = ℕ} 0 1 = cc in omega arith)
+  moves_all i [] (w ∷ ws) e = absurd (cc)
+  moves_all i (l ∷ ls) [] e = absurd (cc)
   moves_all i (l ∷ ls) (w ∷ ws) e =
       let first : k.spelled l ≡ Some w = cc in
       let more : map k.spelled ls ≡ map Some ws = cc in

@@ -3,7 +3,6 @@ use Rattle.std.proofs.Common.{◌≡◌, ℕ, ◌+◌, ◌<◌, Bool, true, fals
 use Rattle.std.specs.Prelude.{IsSome}
 use Rattle.std.proofs.lemmas.List.{at_drop_more}
 use Rattle.std.proofs.lemmas.Bool.{false≢true}
-use Rattle.text.proofs.Cases.{never}
 use Rattle.ways.specs.Kinds.{Notation}
 use Rattle.ways.specs.Writing.{opened, played_from, move_lines}
 
@@ -14,7 +13,7 @@ module _ {P W : Type 0} (k : Notation P W) where
     where
       by : (b : Bool) → cond b (k.game.move p m) None ≡ Some q → k.game.move p m ≡ Some q
       by true e = e
-      by false e = absurd (never q e)
+      by false e = absurd (cc)
 
   pub some_opened : (p : P) (m : ℕ) → IsSome (opened k p m) → (q : P) × (opened k p m ≡ Some q)
   some_opened p m = by (opened k p m)

@@ -70,40 +70,16 @@ module _ {P W : Type 0} (k : Notation P W) where
   pass_closed s i (l ∷ []) = closed_end s i (eqb (length l) 0)
   pass_closed s i (l ∷ m ∷ ms) = refl
 
-  -- a line among the moves, by whether it closes and what it says
-  abbrev line_by : Made P → ℕ → Bool → Option W → Result (Progress P) Refusal
-  line_by s i true o = Ok (Closed s)
-  line_by s i false (Some w) = Ok (Moves (more s i w))
-  line_by s i false None = Err (refusal WayForm i)
-
-  abbrev form_by : ℕ → List (List ℕ) → Bool → Option W → Result (List W) ℕ
-  form_by i parts true o = ends_at k (i + 1) parts
-  form_by i parts false (Some w) = with_move k w (moves_from k (i + 1) parts)
-  form_by i parts false None = Err i
-
-  line_by_lem : (s : Made P) (i : ℕ) (b : Bool) (o : Option W) → ◌≡◌ {A = Result (Progress P) Refusal} (cond b (Ok (Closed s)) (elim o [ Some w ↦ Ok (Moves (more s i w)) | None ↦ Err (refusal WayForm i) ])) (line_by s i b o)
-  line_by_lem s i true o = refl
-  line_by_lem s i false (Some w) = refl
-  line_by_lem s i false None = refl
-
-  form_by_lem : (i : ℕ) (parts : List (List ℕ)) (b : Bool) (o : Option W) → ◌≡◌ {A = Result (List W) ℕ} (form_by i parts b o) (cond b (ends_at k (i + 1) parts) (elim o [ Some w ↦ with_move k w (moves_from k (i + 1) parts) | None ↦ Err i ]))
-  form_by_lem i parts true o = refl
-  form_by_lem i parts false (Some w) = refl
-  form_by_lem i parts false None = refl
-
   -- among the moves
   pass_moves : (s : Made P) (i : ℕ) (parts : List (List ℕ)) → concluded k (read_lines (taken k) (Moves s) i parts) ≡ rest s i (moves_from k i parts)
   pass_moves s i [] = refl
   pass_moves s i (l ∷ []) = refl
-  pass_moves s i (l ∷ m ∷ ms) =
-      ap (λ r. concluded k (goes (taken k) i (m ∷ ms) r)) (line_by_lem s i (is_closing l) (k.spelled l))
-      ∙ by (is_closing l) (k.spelled l) (λ t. pass_moves t (i + 1) (m ∷ ms))
-      ∙ ap (rest s i) (form_by_lem i (m ∷ ms) (is_closing l) (k.spelled l))
+  pass_moves s i (l ∷ m ∷ ms) = by (is_closing l) (k.spelled l) (λ t. pass_moves t (i + 1) (m ∷ ms))
     where
       before : (a : ℕ) → a + 1 - 1 ≡ a
       before a = omega arith
 
-      by : (b : Bool) (o : Option W) → ((t : Made P) → concluded k (read_lines (taken k) (Moves t) (i + 1) (m ∷ ms)) ≡ rest t (i + 1) (moves_from k (i + 1) (m ∷ ms))) → concluded k (goes (taken k) i (m ∷ ms) (line_by s i b o)) ≡ rest s i (form_by i (m ∷ ms) b o)
+      by : (b : Bool) (o : Option W) → ((t : Made P) → concluded k (read_lines (taken k) (Moves t) (i + 1) (m ∷ ms)) ≡ rest t (i + 1) (moves_from k (i + 1) (m ∷ ms))) → concluded k (goes (taken k) i (m ∷ ms) (cond b (Ok (Closed s)) (elim o [ Some w ↦ Ok (Moves (more s i w)) | None ↦ Err (refusal WayForm i) ]))) ≡ rest s i (cond b (ends_at k (i + 1) (m ∷ ms)) (elim o [ Some w ↦ with_move k w (moves_from k (i + 1) (m ∷ ms)) | None ↦ Err i ]))
       by true o on = pass_closed s (i + 1) (m ∷ ms) ∙ ap (λ j. rest s j (ends_at k (i + 1) (m ∷ ms))) (before i)
       by false (Some w) on = on (more s i w) ∙ rest_move s i w (moves_from k (i + 1) (m ∷ ms))
       by false None on = refl

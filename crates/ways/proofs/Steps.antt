@@ -2,10 +2,9 @@
 use Rattle.std.proofs.Common.{◌≡◌, ℕ, ◌<◌, Bool, true, false, cond, ltb, List, [], ◌∷◌, ◌++◌, Some, None, Ok, Err, Option, Result, sym, refl, ap, ◌∙◌}
 use Rattle.std.proofs.lemmas.Bool.{true≢false, cond-true, lt-ltb}
 use Rattle.puzzle.specs.Game.{Game, Plays, Reached, here, then, Played}
-use Rattle.refusals.specs.declared.Fault.TheVariants.{ClosedMove, AfterFinish}
+use Rattle.refusals.specs.declared.Fault.TheVariants.{NothingThere, ClosedMove, AfterFinish}
 use Rattle.refusals.specs.declared.Refusal.{Refusal}
 use Rattle.refusals.specs.Refusals.{refusal}
-use Rattle.text.proofs.Cases.{clash}
 use Rattle.ways.specs.Kinds.{Notation, Lawful}
 use Rattle.ways.specs.Judging.{followed}
 use Rattle.ways.specs.Writing.{opened}
@@ -41,16 +40,16 @@ module _ {P W : Type 0} (k : Notation P W) (lawful : Lawful k) where
     pub unfinished : k.game.finished p ≡ false
 
   pub followed_legal : (p : P) (n : ℕ) (w : W) (q : P) → followed k p n w ≡ Ok q → Legal p n w q
-  followed_legal p n w q e = by_name (k.named p w) _ _ _ refl e
+  followed_legal p n w q e = by_name (k.named p w) refl e
     where
-      by_finish : (m : ℕ) (r : P) (b : Bool) (x : Refusal) → k.named p w ≡ Some m → k.game.move p m ≡ Some r → k.game.finished p ≡ b → cond b (Err x) (Ok r) ≡ Ok q → Legal p n w q
-      by_finish m r true x a b c e = absurd (clash q x e)
-      by_finish m r false x a b c e = let same : r ≡ q = cc in record { number = m; named = a; leads = b ∙ ap Some same; unfinished = c }
+      by_finish : (m : ℕ) (r : P) (b : Bool) → k.named p w ≡ Some m → k.game.move p m ≡ Some r → k.game.finished p ≡ b → cond b (Err (refusal AfterFinish n)) (Ok r) ≡ Ok q → Legal p n w q
+      by_finish m r true a b c e = absurd (cc)
+      by_finish m r false a b c e = let same : r ≡ q = cc in record { number = m; named = a; leads = b ∙ ap Some same; unfinished = c }
 
-      by_move : (m : ℕ) (o : Option P) (x y : Refusal) → k.named p w ≡ Some m → k.game.move p m ≡ o → ◌≡◌ {A = Result P Refusal} (elim o [ Some r ↦ cond (k.game.finished p) (Err x) (Ok r) | None ↦ Err y ]) (Ok q) → Legal p n w q
-      by_move m (Some r) x y a b e = by_finish m r (k.game.finished p) x a b refl e
-      by_move m None x y a b e = absurd (clash q y e)
+      by_move : (m : ℕ) (o : Option P) → k.named p w ≡ Some m → k.game.move p m ≡ o → ◌≡◌ {A = Result P Refusal} (elim o [ Some r ↦ cond (k.game.finished p) (Err (refusal AfterFinish n)) (Ok r) | None ↦ Err (refusal ClosedMove n) ]) (Ok q) → Legal p n w q
+      by_move m (Some r) a b e = by_finish m r (k.game.finished p) a b refl e
+      by_move m None a b e = absurd (cc)
 
-      by_name : (o : Option ℕ) (x y z : Refusal) → k.named p w ≡ o → ◌≡◌ {A = Result P Refusal} (elim o [ Some m ↦ elim (k.game.move p m) [ Some r ↦ cond (k.game.finished p) (Err x) (Ok r) | None ↦ Err y ] | None ↦ Err z ]) (Ok q) → Legal p n w q
-      by_name (Some m) x y z a e = by_move m (k.game.move p m) x y a refl e
-      by_name None x y z a e = absurd (clash q z e)
+      by_name : (o : Option ℕ) → k.named p w ≡ o → ◌≡◌ {A = Result P Refusal} (elim o [ Some m ↦ elim (k.game.move p m) [ Some r ↦ cond (k.game.finished p) (Err (refusal AfterFinish n)) (Ok r) | None ↦ Err (refusal ClosedMove n) ] | None ↦ Err (refusal NothingThere n) ]) (Ok q) → Legal p n w q
+      by_name (Some m) a e = by_move m (k.game.move p m) a refl e
+      by_name None a e = absurd (cc)

@@ -6,7 +6,6 @@ use Rattle.refusals.specs.declared.Fault.TheVariants.{NoRoom}
 use Rattle.refusals.specs.declared.Refusal.{Refusal}
 use Rattle.refusals.specs.Refusals.{refusal}
 use Rattle.text.specs.Lines.{join_lines}
-use Rattle.text.proofs.Cases.{clash}
 use Rattle.forms.specs.Forms.{count_line, closing}
 use Rattle.pen.specs.Ink.{put}
 use Rattle.pen.specs.Ink as ink
@@ -41,7 +40,7 @@ module _ {P W : Type 0} (k : Notation P W) (ms : List ℕ) where
       where
         by : (r : Result P ℕ) → ◌≡◌ {A = Result (Unit {0}) Refusal} (checked_as k r) (Ok tt) → written_as k ms out r ≡ answer has_room
         by (Ok p) q = ap (λ b. answer (b && has_room)) (le-leb _ _ few)
-        by (Err n) q = absurd (clash tt _ q)
+        by (Err n) q = absurd (cc)
 
     pub way_written : {x : Result ℕ Refusal} → x ≡ answer has_room → x ≡ written k ms out
     way_written e = e ∙ sym by_room

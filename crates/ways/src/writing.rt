@@ -42,6 +42,7 @@ impl<'a, K: Kind> WayText<'a, K> {
     {
         let mut walk = Walk::start(self.kind);
         for number in self.moves {
+            // Each move is open.
             let Some(next) = walk.play(*number) else {
                 return;
             };
