@@ -1,7 +1,7 @@
 use crate::level::AtomLevel;
 
 /// Where the atoms of a level stand: the cell of each by its number. Places past the last atom are 0.
-#[derive(Clone, Copy)]
+#[derive(Clone, Copy, Debug, PartialEq, Eq)]
 pub struct Position {
     pub cells: [u8; AtomLevel::MOST_ATOMS],
 }

@@ -1,4 +1,4 @@
-use Rattle.std.proofs.Common.{◌≡◌, ◌<◌, true, length, take, sym, ap, ◌∙◌, length-take, arith}
+use Rattle.std.proofs.Common.{◌≡◌, ◌<◌, true, length, get_or, take, sym, ap, ◌∙◌, length-take, arith}
 use Rattle.std.proofs.lemmas.List.{length_push}
 use Rattle.std.proofs.lemmas.Slice.Zip.{zip_turn, zip_end}
 use Rattle.pictures.proofs.Shapes.{some_wide}
@@ -7,23 +7,30 @@ use Rattle.atoms.specs.Level.{atoms, count, some_fit, finished}
 use Rattle.atoms.proofs.Roll.{length_labels}
 use Rattle.atoms.proofs.Fits.{fits_by, fits_more, fits_not, fits_all, none_more, some_here, none_all, finished_decides}
 use Rattle.atoms.proofs.level.AtomLevel.is_goal.Goals as goal
+use Rattle.atoms.proofs.level.AtomLevel.is_goal.Goals.{In-Some}
+
+-- the atom of this turn is one of the level's: its cell and its label
+turn : (c : In-Some) → (length c.loop-cell.yielded < count (atoms c.args.self.now)) × (c.in-Some.cell.now ≡ get_or (take (count (atoms c.args.self.now)) c.args.position.now.cells) (length c.loop-cell.yielded) 0) × (c.in-Some.label.now ≡ get_or (labels_of (atoms c.args.self.now).board) (length c.loop-cell.yielded) 0)
+turn c =
+    let l = atoms c.args.self.now in
+    let p = c.args.position.now in
+    let at = zip_turn (take (count l) p.cells) (labels_of l.board) c.loop-cell.yielded c.into_iter-cell-iterator.result c.loop-cell.cell-iterator c.next.new.self _ (cc) (cc) c.loop-cell.yielded_by _ c.in-Some.is c.next.ensures.steps in
+    (omega (arith, at.0, length-take (count l) p.cells), at.2 0, at.3 0)
 
 pub places-preserved : goal.places-preserved
 places-preserved c =
     let l = atoms c.args.self.now in
     let p = c.args.position.now in
-    let turn = zip_turn (take (count l) p.cells) (labels_of l.board) c.loop-cell.yielded c.into_iter-cell-iterator.result c.loop-cell.cell-iterator c.next.new.self _ (cc) (cc) c.loop-cell.yielded_by _ c.in-Some.is c.next.ensures.steps in
-    let there : length c.loop-cell.yielded < count l = omega (arith, turn.0, length-take (count l) p.cells) in
-    let not = fits_by l p _ _ _ _ _ there (turn.2 0) (turn.3 0) c.if-not-wants.ensures.says in
+    let (there, stands, labelled) = turn (goal.at.places-preserved c).In-Some in
+    let not = fits_by l p _ _ _ _ _ there stands labelled c.if-not-wants.ensures.says in
     (c.places.invariant.0, none_more l p _ _ c.places-test.true c.places.invariant.1 (fits_not l p _ _ there not))
 
 pub loop-cell-preserved : goal.loop-cell-preserved
 loop-cell-preserved c =
     let l = atoms c.args.self.now in
     let p = c.args.position.now in
-    let turn = zip_turn (take (count l) p.cells) (labels_of l.board) c.loop-cell.yielded c.into_iter-cell-iterator.result c.loop-cell.cell-iterator c.next.new.self _ (cc) (cc) c.loop-cell.yielded_by _ c.in-Some.is c.next.ensures.steps in
-    let there : length c.loop-cell.yielded < count l = omega (arith, turn.0, length-take (count l) p.cells) in
-    let here = fits_by l p _ _ _ _ _ there (turn.2 0) (turn.3 0) c.if-not-wants.ensures.says in
+    let (there, stands, labelled) = turn (goal.at.loop-cell-preserved c).In-Some in
+    let here = fits_by l p _ _ _ _ _ there stands labelled c.if-not-wants.ensures.says in
     rw length_push (fits_more l p _ _ c.loop-cell.invariant here)
 
 pub returns-after-places : goal.returns-after-places
