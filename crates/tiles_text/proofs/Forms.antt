@@ -1,10 +1,8 @@
 -- The lines of a level: what each is taken as, and that no other line is taken there. Assumes nothing.
 use Rattle.std.proofs.Common.{◌≡◌, ℕ, ◌+◌, ◌*◌, ◌^◌, ◌<◌, ◌≤◌, Bool, true, false, cond, ◌&&◌, List, [], ◌∷◌, ◌++◌, length, get_or, Some, None, Ok, Err, codes, decimal, Option, sym, refl, ap, ◌∙◌, arith, lit<}
-use Rattle.std.specs.List.{AllByRecursion as All}
-use Rattle.std.specs.List as lists
-use Rattle.std.proofs.lemmas.List.Elements as each
+use Rattle.std.specs.List.{All}
 use Rattle.std.proofs.lemmas.Fmt.{decimal_by_steps, decimal_nonempty, length-decimal-le}
-use Rattle.std.proofs.ByRecursion.{All-append, All-push, All-weaker}
+use Rattle.std.proofs.lemmas.List.Elements.{All-nil, All-cons, All-head, All-tail, All-append, All-push, All-weaker}
 use Rattle.std.proofs.lemmas.Slice.Eq.{bytes_eq-Decides}
 use Rattle.std.proofs.lemmas.List.{length-append}
 use Rattle.std.proofs.lemmas.Bool.{cond-true}
@@ -40,40 +38,40 @@ digit_byte d small = record { printed = (omega arith, omega arith); within = gri
 
 pub decimal_bytes : (n : ℕ) → n < 2 ^ 64 → All RowByte (decimal n)
 decimal_bytes n fits =
-    decimal_by_steps (λ m ds. All RowByte ds) (λ m small. (digit_byte m small, tt))
+    decimal_by_steps (λ m ds. All RowByte ds) (λ m small. All-cons RowByte (48 + m) [] (digit_byte m small) (All-nil RowByte))
     (λ m ds big before. All-push RowByte ds _ before (digit_byte _ (omega arith))) n fits
 
 blank : RowByte 32
 blank = record { printed = (omega arith, omega arith); within = refl }
 
 pub spaced_bytes : (limit : ℕ) (ns : List ℕ) → limit ≤ 16 → All (λ n. n < limit) ns → All RowByte (spaced ns)
-spaced_bytes limit [] few below = tt
+spaced_bytes limit [] few below = All-nil RowByte
 spaced_bytes limit (n ∷ ns) few below =
-    let small = below.0 in
-    (blank, All-append RowByte (decimal n) (spaced ns) (decimal_bytes n (omega arith)) (spaced_bytes limit ns few below.1))
+    let small = All-head (λ m. m < limit) n ns below in
+    All-cons RowByte 32 (decimal n ++ spaced ns) blank
+    (All-append RowByte (decimal n) (spaced ns) (decimal_bytes n (omega arith)) (spaced_bytes limit ns few (All-tail (λ m. m < limit) n ns below)))
 
 spaced_arguments : (limit : ℕ) (ns : List ℕ) → limit ≤ 16 → 0 < length ns → All (λ n. n < limit) ns → Arguments (spaced ns)
 spaced_arguments limit [] few some below = absurd (omega arith)
 spaced_arguments limit (n ∷ ns) few some below =
-    let small = below.0 in
+    let small = All-head (λ m. m < limit) n ns below in
     record {
       blank = refl;
       some = omega (arith, decimal_nonempty n (omega arith), length-append (decimal n) (spaced ns));
       within = leading_all inside (spaced (n ∷ ns))
-          (each.All-from_recursion (λ b. inside b ≡ true) (spaced (n ∷ ns))
-          (All-weaker RowByte (λ b. inside b ≡ true) (λ b r. r.within) (spaced (n ∷ ns)) (spaced_bytes limit (n ∷ ns) few below)));
+          (All-weaker RowByte (λ b. inside b ≡ true) (λ b r. r.within) (spaced (n ∷ ns)) (spaced_bytes limit (n ∷ ns) few below));
     }
 
 -- no line is long
-printed_bytes : (l : List ℕ) → All RowByte l → lists.All Printed l
-printed_bytes l all = each.All-from_recursion Printed l (All-weaker RowByte Printed (λ b r. r.printed) l all)
+printed_bytes : (l : List ℕ) → All RowByte l → All Printed l
+printed_bytes l all = All-weaker RowByte Printed (λ b r. r.printed) l all
 
 pub short_head : (w h : ℕ) → w < 10 → h < 10 → Short (head_line w h)
 short_head w h hw hh = record {
   printed =
-      each.All-append Printed (codes "(tiles ") (decimal w ++ (32 ∷ decimal h)) (printed_by (codes "(tiles ") refl)
-      (each.All-append Printed (decimal w) (32 ∷ decimal h) (printed_bytes (decimal w) (decimal_bytes w (omega arith)))
-      (each.All-cons Printed 32 (decimal h) blank.printed (printed_bytes (decimal h) (decimal_bytes h (omega arith)))));
+      All-append Printed (codes "(tiles ") (decimal w ++ (32 ∷ decimal h)) (printed_by (codes "(tiles ") refl)
+      (All-append Printed (decimal w) (32 ∷ decimal h) (printed_bytes (decimal w) (decimal_bytes w (omega arith)))
+      (All-cons Printed 32 (decimal h) blank.printed (printed_bytes (decimal h) (decimal_bytes h (omega arith)))));
   short =
       omega (arith, length-append (decimal w) (32 ∷ decimal h), length-decimal-le 1 w (omega arith) hw (omega arith), length-decimal-le 1 h (omega arith) hh (omega arith));
 }
@@ -81,14 +79,14 @@ short_head w h hw hh = record {
 length_spaced : (limit : ℕ) (ns : List ℕ) → limit ≤ 16 → All (λ n. n < limit) ns → length (spaced ns) ≤ 3 * length ns
 length_spaced limit [] few below = omega arith
 length_spaced limit (n ∷ ns) few below =
-    let small = below.0 in
-    omega (arith, length-append (decimal n) (spaced ns), length-decimal-le 2 n (omega arith) (omega arith) (omega arith), length_spaced limit ns few below.1)
+    let small = All-head (λ m. m < limit) n ns below in
+    omega (arith, length-append (decimal n) (spaced ns), length-decimal-le 2 n (omega arith) (omega arith) (omega arith), length_spaced limit ns few (All-tail (λ m. m < limit) n ns below))
 
 pub short_row : (limit : ℕ) (ns : List ℕ) → limit ≤ 16 → length ns ≤ 4 → All (λ n. n < limit) ns → Short (row_line ns)
 short_row limit ns few most below = record {
   printed =
-      each.All-append Printed (codes "(row") (spaced ns ++ closing) (printed_by (codes "(row") refl)
-      (each.All-append Printed (spaced ns) closing (printed_bytes (spaced ns) (spaced_bytes limit ns few below)) (printed_by closing refl));
+      All-append Printed (codes "(row") (spaced ns ++ closing) (printed_by (codes "(row") refl)
+      (All-append Printed (spaced ns) closing (printed_bytes (spaced ns) (spaced_bytes limit ns few below)) (printed_by closing refl));
   short = omega (arith, length-append (spaced ns) closing, length_spaced limit ns few below);
 }
 

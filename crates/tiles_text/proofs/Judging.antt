@@ -1,6 +1,7 @@
 -- The tiles that were read make a level exactly where each number comes once. Assumes nothing.
 use Rattle.std.proofs.Common.{◌≡◌, ℕ, zero, suc, ◌+◌, ◌-◌, ◌*◌, ◌^◌, ◌<◌, ◌≤◌, Bool, true, false, cond, eqb, ltb, List, [], ◌∷◌, length, Some, None, Ok, Err, Option, Decides, MatchOption, count_by, sym, refl, ap, ◌∙◌, subst, ⊎_elim, arith}
-use Rattle.std.specs.List.{AllByRecursion as All}
+use Rattle.std.specs.List.{All}
+use Rattle.std.proofs.lemmas.List.Elements.{All-nil, All-cons}
 use Rattle.std.proofs.lemmas.List.Sums.{sum_by-cons, count_by-le-length}
 use Rattle.std.proofs.lemmas.Bool.{cond-true, cond-false, cases_Bool, ltb-true}
 use Rattle.std.proofs.lemmas.Bool.Decides.{Decides-below_and, Decides-eqb, nat_tests}
@@ -55,12 +56,12 @@ count_below ts (suc n) once =
     omega (arith, count_split n ts, count_below ts n (λ k h. once k (omega arith)), once n (omega arith))
 
 all_counted : (n : ℕ) (ts : List ℕ) → count_by (λ t. ltb t n) ts ≡ length ts → All (λ t. t < n) ts
-all_counted n [] e = tt
+all_counted n [] e = All-nil (λ t. t < n)
 all_counted n (t ∷ ts) e =
     by (ltb t n) (ltb-true t n) (count_by (λ t. ltb t n) ts) (sym (count_cons (λ t. ltb t n) t ts) ∙ e) (count_by-le-length (λ t. ltb t n) ts) (all_counted n ts)
   where
-    by : (b : Bool) → (b ≡ true → t < n) → (k : ℕ) → cond b 1 0 + k ≡ suc (length ts) → k ≤ length ts → (k ≡ length ts → All (λ t. t < n) ts) → (t < n) × All (λ t. t < n) ts
-    by true small k e most more = (small refl, more (omega arith))
+    by : (b : Bool) → (b ≡ true → t < n) → (k : ℕ) → cond b 1 0 + k ≡ suc (length ts) → k ≤ length ts → (k ≡ length ts → All (λ t. t < n) ts) → All (λ t. t < n) (t ∷ ts)
+    by true small k e most more = All-cons (λ t. t < n) t ts (small refl) (more (omega arith))
     by false small k e most more = absurd (omega arith)
 
 pub all_below : (n p : ℕ) → Numbered n p → All (λ t. t < n) (unpacked n p)

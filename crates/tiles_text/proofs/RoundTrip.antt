@@ -1,10 +1,7 @@
 -- A text is read as a level exactly where it is that level written out. Assumes nothing.
 use Rattle.std.proofs.Common.{◌≡◌, ℕ, zero, suc, ◌+◌, ◌-◌, ◌*◌, ◌^◌, ◌<◌, ◌≤◌, Bool, true, false, cond, eqb, List, [], ◌∷◌, ◌++◌, length, take, drop, Ok, Err, Result, sym, refl, ap, ◌∙◌, subst, append_assoc, append-nil, mul-suc, arith}
-use Rattle.std.specs.List.{AllByRecursion as All}
-use Rattle.std.specs.List as lists
-use Rattle.std.proofs.ByRecursion.{All-append, All-take, All-drop, All-weaker}
-use Rattle.std.proofs.lemmas.List.Elements.{All-from_recursion}
-use Rattle.std.proofs.lemmas.List.Elements as each
+use Rattle.std.specs.List.{All}
+use Rattle.std.proofs.lemmas.List.Elements.{All-nil, All-cons, All-append, All-take, All-drop, All-weaker}
 use Rattle.std.proofs.lemmas.List.{length-append, length-take, length-take-le, length-drop, take-append-drop, take_at, take_all, drop_at}
 use Rattle.std.proofs.lemmas.Bool.{cond-true, cond-false, ne_eqb}
 use Rattle.refusals.specs.declared.Refusal.{Refusal}
@@ -98,7 +95,7 @@ only_rows zero w h n ts (l ∷ ls) t is =
     let us = ts ++ row.ns in
     let rest = only_last w h (n + 1) us ls t (ap (λ f. ends f (n + 1) ls) (sym row.then) ∙ first.rest) in
     rows_more w h 0 ts l ls t first.state row
-    (record { ns = []; long = omega arith; below = tt; lines = rest.0; makes = subst (λ x. Makes w h x t) (sym (append-nil us)) rest.1 })
+    (record { ns = []; long = omega arith; below = All-nil (λ k. k < w * h); lines = rest.0; makes = subst (λ x. Makes w h x t) (sym (append-nil us)) rest.1 })
 only_rows (suc left) w h n ts (l ∷ ls) t is =
     let first = took (rows w h (suc (suc left)) ts) n l ls t is in
     let row = took_row w h n ts l first.state (suc (suc left)) first.first in
@@ -155,7 +152,7 @@ only_head n (l ∷ ls) t is =
 written : (w h : ℕ) (us : List ℕ) → Tiled w h us → Valid (level w h us) × (join_lines (level_lines w h us) ≡ level_text (level w h us))
 written w h us tiled =
     let few = few_cells w h tiled.sized.wide.1 tiled.sized.high.1 in
-    let small = All-from_recursion Small us (All-weaker (λ k. k < w * h) Small (λ k below. omega arith) us tiled.below) in
+    let small = All-weaker (λ k. k < w * h) Small (λ k below. omega arith) us tiled.below in
     let back : unpacked (w * h) (packed us) ≡ us = ap (λ k. unpacked k (packed us)) (sym tiled.long) ∙ unpacked_packed us small in
     let fits : packed us < 16 ^ (w * h) = omega (arith, packed_lt us small, ap (λ k. 16 ^ k) tiled.long) in (
       (valid_decides w h (packed us) tiled.sized.wide tiled.sized.high fits).0 (ap (each_once (w * h)) back ∙ tiled.once),
@@ -211,19 +208,19 @@ module _ (w h : ℕ) (sized : Sized w h) where
       ∙ all_rows (h - 1) 2 [] us (tiled.long ∙ ap (λ k. w * k) more) tiled.below tiled.once
 
   -- and they make a text
-  short_rows : (left : ℕ) (ns : List ℕ) → All (λ k. k < w * h) ns → lists.All Short (row_lines left w ns)
-  short_rows zero ns below = each.All-nil Short
+  short_rows : (left : ℕ) (ns : List ℕ) → All (λ k. k < w * h) ns → All Short (row_lines left w ns)
+  short_rows zero ns below = All-nil Short
   short_rows (suc left) ns below =
-      each.All-cons Short (row_line (take w ns)) (row_lines left w (drop w ns))
+      All-cons Short (row_line (take w ns)) (row_lines left w (drop w ns))
       (short_row (w * h) (take w ns) few (omega (arith, length-take w ns, sized.wide)) (All-take (λ k. k < w * h) w ns below))
       (short_rows left (drop w ns) (All-drop (λ k. k < w * h) w ns below))
 
-  short_lines : (us : List ℕ) → Tiled w h us → lists.All Short (level_lines w h us)
+  short_lines : (us : List ℕ) → Tiled w h us → All Short (level_lines w h us)
   short_lines us tiled =
       let wide = sized.wide in
       let high = sized.high in
-      each.All-cons Short (head_line w h) (row_lines h w us ++ (closing ∷ [])) (short_head w h (omega arith) (omega arith))
-      (each.All-append Short (row_lines h w us) (closing ∷ []) (short_rows h us tiled.below) (each.All-cons Short closing [] short_close (each.All-nil Short)))
+      All-cons Short (head_line w h) (row_lines h w us ++ (closing ∷ [])) (short_head w h (omega arith) (omega arith))
+      (All-append Short (row_lines h w us) (closing ∷ []) (short_rows h us tiled.below) (All-cons Short closing [] short_close (All-nil Short)))
 
   length_rows : (left : ℕ) (ns : List ℕ) → length (row_lines left w ns) ≡ left
   length_rows zero ns = refl

@@ -1,7 +1,8 @@
 -- The numbers of a row are read from the text that spells them, and from no other. Assumes nothing.
 use Rattle.std.proofs.Common.{◌≡◌, ℕ, zero, suc, ◌<◌, ◌≤◌, Bool, true, false, cond, eqb, ltb, List, [], ◌∷◌, ◌++◌, length, Some, None, decimal, Option, refl, ap, ◌∙◌, subst, arith}
-use Rattle.std.specs.List.{AllByRecursion as All}
+use Rattle.std.specs.List.{All}
 use Rattle.std.proofs.lemmas.List.{nil_from_length}
+use Rattle.std.proofs.lemmas.List.Elements.{All-nil, All-cons, All-head, All-tail}
 use Rattle.std.proofs.lemmas.Bool.{cond-true, lt-ltb, ltb-true, eqb-true}
 use Rattle.forms.specs.Forms.{◌then◌, number_in}
 use Rattle.text.proofs.Cases.{never}
@@ -25,7 +26,7 @@ spelled_more : (limit k n : ℕ) (l rest ns : List ℕ) → number_in l ≡ Some
 spelled_more limit k n l rest ns number small s = record {
   text = (number_only_lem l n rest number).0 ∙ ap (λ x. 32 ∷ (decimal n ++ x)) s.text;
   size = ap suc s.size;
-  below = (small, s.below);
+  below = All-cons (λ m. m < limit) n ns small s.below;
 }
 
 pub numbers_only : (limit k : ℕ) (l ns : List ℕ) → numbers_in limit k l ≡ Some ns → Spelled limit k l ns
@@ -34,7 +35,7 @@ numbers_only limit zero l ns e =
     let whole = t.1 in
     let same : [] ≡ ns = cc in
     let none = nil_from_length l (eqb-true _ _ t.0) in
-    subst (Spelled limit zero l) same (record { text = none; size = refl; below = tt })
+    subst (Spelled limit zero l) same (record { text = none; size = refl; below = All-nil (λ m. m < limit) })
 numbers_only limit (suc k) l ns e =
     let first = first_step (number_in l) _ ns e in
     let n = first.0.0 in
@@ -54,7 +55,7 @@ stops (n ∷ ns) = refl
 pub numbers_all : (limit : ℕ) (ns : List ℕ) → limit ≤ 16 → All (λ n. n < limit) ns → numbers_in limit (length ns) (spaced ns) ≡ Some ns
 numbers_all limit [] few below = refl
 numbers_all limit (n ∷ ns) few below =
-    let small = below.0 in
+    let small = All-head (λ m. m < limit) n ns below in
     ap (λ o. o then (λ x. cond (ltb x.0 limit) (numbers_in limit (length ns) x.1 then (λ ms. Some (x.0 ∷ ms))) None)) (number_reads n (omega arith) (spaced ns) (stops ns))
     ∙ cond-true (ltb n limit) _ _ (lt-ltb n limit small)
-    ∙ ap (λ o. o then (λ ms. Some (n ∷ ms))) (numbers_all limit ns few below.1)
+    ∙ ap (λ o. o then (λ ms. Some (n ∷ ms))) (numbers_all limit ns few (All-tail (λ m. m < limit) n ns below))

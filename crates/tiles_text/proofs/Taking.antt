@@ -1,7 +1,6 @@
 -- A row that is taken after the rows before it. Assumes nothing.
 use Rattle.std.proofs.Common.{◌≡◌, ℕ, ◌+◌, ◌-◌, ◌*◌, ◌%◌, ◌^◌, ◌<◌, ◌≤◌, List, ◌++◌, Some, None, Option, sym, refl, ap, ◌∙◌, subst, add-mul, arith}
-use Rattle.std.proofs.ByRecursion.{All-weaker}
-use Rattle.std.proofs.lemmas.List.Elements.{All-from_recursion}
+use Rattle.std.proofs.lemmas.List.Elements.{All-weaker}
 use Rattle.std.proofs.lemmas.Bool.{cond-true, cond-false, eq-eqb, ne_eqb}
 use Rattle.text.proofs.Cases.{never}
 use Rattle.forms.specs.Forms.{◌then◌}
@@ -53,7 +52,7 @@ module _ (r : Rows) (v : ℕ) (x : List ℕ) (read : Some v ≡ packed_to (numbe
       let spelled = numbers_only (w * h) w x numbers.0 numbers.1 in
       let most = few in
       added r.cells r.count w v numbers.0 r.below room spelled.size
-      (All-from_recursion Small _ (All-weaker (λ k. k < w * h) Small (λ k small. omega arith) numbers.0 spelled.below)) numbers.2
+      (All-weaker (λ k. k < w * h) Small (λ k small. omega arith) numbers.0 spelled.below) numbers.2
 
   all_grown : grown w h r.due (tiles_so_far r) x ≡ Some (after_row w h r.due (unpacked (r.count + w) more))
   all_grown =
