@@ -27,7 +27,7 @@ pub(crate) enum Progress<W> {
 }
 
 impl<'a, K: Kind> Made<Walk<'a, K>> {
-    // One move more, as it is written on a line.
+    // One move more, as it is written on a line. No text has so many lines that the count ends.
     pub(crate) fn with_move(self, written: &K::Written, line: usize) -> Self
         ensures announced { result.announced ≡ self.entry.announced }
         ensures counts { self.entry.count + 1 < 2 ^ 64 → result.count ≡ self.entry.count + 1 }
