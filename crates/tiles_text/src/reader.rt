@@ -74,14 +74,15 @@ impl Rows {
     fn read_row(self, row: Line) -> Option<u64>
         ensures { result ≡ packed_to (numbers_in (self.grid.width * self.grid.height) self.grid.width (bytes row.entry)) }
     {
+        let width = usize::from(self.grid.width);
         let mut tiles = 0;
         let mut rest = row;
-        for column in 0..self.grid.width as usize {
+        for column in 0..width {
             let (tile, after) = forms::number(rest)?;
             if tile as usize >= self.grid.cells() {
                 return None;
             }
-            tiles += (tile as u64) << (BITS_PER_CELL * column);
+            tiles += u64::from(tile) << (BITS_PER_CELL * column);
             rest = after;
         }
         if rest.is_empty() { Some(tiles) } else { None }
@@ -100,7 +101,7 @@ impl Rows {
         Some(Reader::Rows(Rows {
             grid,
             cells,
-            count: self.count + grid.width as usize,
+            count: self.count + usize::from(grid.width),
             due: self.due - 1,
         }))
     }

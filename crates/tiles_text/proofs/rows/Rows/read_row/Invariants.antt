@@ -8,5 +8,5 @@ use Rattle.tiles_text.proofs.rows.Rows.read_row.Given as goal
 abbrev pub invariant-loop-column : goal.invariant-loop-column
 invariant-loop-column l =
     let limit = l.self.grid.width * l.self.grid.height in
-    (behind l.column l.tiles (numbers_in limit (l.self.grid.width - l.column) (bytes l.rest)) ≡ packed_to (numbers_in limit l.self.grid.width (bytes l.row)))
+    (behind l.column l.tiles (numbers_in limit (l.width - l.column) (bytes l.rest)) ≡ packed_to (numbers_in limit l.width (bytes l.row)))
     × (l.tiles < 16 ^ l.column)

@@ -26,9 +26,9 @@ invariant_of-result-2 c =
       wide = c.args.self.wide;
       high = c.args.self.high;
       some = omega arith;
-      counted = grown.counted;
-      below = grown.below;
+      counted = rw c.from.ensures grown.counted;
+      below = rw c.from.ensures grown.below;
     }
 
 pub returns : goal.returns
-returns c = sym ((after (goal.at.returns c).In_ok-tiles).goes_on c.if-self-eq1.false)
+returns c = rw c.from.ensures (sym ((after (goal.at.returns c).In_ok-tiles).goes_on c.if-self-eq1.false))
