@@ -10,7 +10,7 @@ mod drawing;
 #[derive(Clone, Copy, Debug)]
 pub struct Picture {
     grid: Grid,
-    cells: [Cell; 256],
+    cells: [Cell; Picture::MOST_CELLS],
     ghost wide: { (1 ≤ grid.width) × (grid.width ≤ 16) },
     ghost high: { grid.height ≤ 16 },
     ghost filled: { length cells ≡ 256 },

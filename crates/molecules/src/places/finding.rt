@@ -8,9 +8,6 @@ use crate::molecule::Molecule;
 use crate::overlay::Overlay;
 use pictures::Picture;
 
-/// The most goal places that there can be: as many as a board has cells.
-const MOST_PLACES: usize = 256;
-
 impl GoalPlaces {
     /// The goal places of a molecule on a board.
     pub fn find(board: &Picture, molecule: &Molecule) -> GoalPlaces
@@ -19,7 +16,7 @@ impl GoalPlaces {
     {
         let drawn = molecule.picture();
         let mut places = GoalPlaces {
-            cells: [0; MOST_PLACES],
+            cells: [0; Picture::MOST_CELLS],
             count: 0,
         };
         for place in 0..board.cells().len() {

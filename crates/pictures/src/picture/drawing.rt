@@ -5,9 +5,6 @@ use super::Picture;
 use crate::cell::Cell;
 use grid::Grid;
 
-/// As many cells as a picture may have.
-const MOST_CELLS: usize = Picture::LONGEST_SIDE * Picture::LONGEST_SIDE;
-
 /// A picture one cell wide with no row yet.
 impl Default for Picture {
     ghost is_default = { λ picture. shape picture ≡ shape_of 1 0 [] };
@@ -18,7 +15,7 @@ impl Default for Picture {
                 width: 1,
                 height: 0,
             },
-            cells: [Cell::Free; MOST_CELLS],
+            cells: [Cell::Free; Picture::MOST_CELLS],
         }
     }
 }
@@ -26,6 +23,9 @@ impl Default for Picture {
 impl Picture {
     /// The most cells that a picture is wide and high.
     pub const LONGEST_SIDE: usize = 16;
+
+    /// As many cells as a picture may have.
+    pub const MOST_CELLS: usize = Self::LONGEST_SIDE * Self::LONGEST_SIDE;
 
     /// A picture of this width with no row yet; there is none unless it is 1 to 16 wide.
     pub fn new(width: usize) -> Option<Picture>
@@ -39,7 +39,7 @@ impl Picture {
                 width: width as u8,
                 height: 0,
             },
-            cells: [Cell::Free; MOST_CELLS],
+            cells: [Cell::Free; Picture::MOST_CELLS],
         })
     }
 
