@@ -8,7 +8,6 @@ use Rattle.std.proofs.lemmas.Bool.{cond-true, lt-ltb, eq-eqb, ne_eqb}
 use Rattle.grid.specs.declared.Grid.{Grid}
 use Rattle.grid.specs.declared.Place.{Place}
 use Rattle.grid.specs.Grid.{cell_at}
-use Rattle.pictures.proofs.Drawn.{never}
 use Rattle.atoms.specs.declared.position.Position.{Position}
 use Rattle.atoms.specs.Level.{Atoms, count}
 use Rattle.atoms.specs.Moves.{atom_at}
@@ -45,4 +44,4 @@ module _ (l : Atoms) (p : Position) where
     where
       by : (o : Option ℕ) → found_in o ≡ Some a → a < count l
       by (Some cell) e = omega (arith, (position-Some (λ at. eqb at cell) standing a 0 e).0, length-take (count l) p.cells)
-      by None e = absurd (never a e)
+      by None e = cc

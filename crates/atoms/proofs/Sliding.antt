@@ -7,7 +7,6 @@ use Rattle.grid.specs.declared.Grid.{Grid}
 use Rattle.grid.specs.Grid.{number_of, direction_of}
 use Rattle.grid.proofs.Laws.{direction_of_number_of, number_of_direction_of, number_of_lt}
 use Rattle.puzzle.specs.Game.{Played}
-use Rattle.pictures.proofs.Drawn.{never}
 use Rattle.slides.specs.declared.cell_set.CellSet.{CellSet}
 use Rattle.slides.specs.Sets.{has}
 use Rattle.slides.specs.Slides.{slid, Slides}
@@ -65,12 +64,12 @@ module _ (l : Atoms) (p : Position) where
     where
       by_rest : (d : Direction) → m / 4 < count l → direction_of (m % 4) ≡ Some d → (o : Option ℕ) → rest_of l p (m / 4) d ≡ o → put_to l p (m / 4) o ≡ Some q → Open m q
       by_rest d there named (Some t) rests e = record { way = d; to = t; there = there; named = named; rests = rests; after = cc }
-      by_rest d there named None rests e = absurd (never q e)
+      by_rest d there named None rests e = cc
 
       by : (b : Bool) (o : Option Direction) → ltb (m / 4) (count l) ≡ b → direction_of (m % 4) ≡ o → ◌≡◌ {A = Option Position} (cond b (slides l p (m / 4) o) None) (Some q) → Open m q
       by true (Some d) below named e = by_rest d (ltb-true _ _ below) named (rest_of l p (m / 4) d) refl e
-      by true None below named e = absurd (never q e)
-      by false o below named e = absurd (never q e)
+      by true None below named e = cc
+      by false o below named e = cc
 
   module _ (few : count l ≤ 16) (long : length p.cells ≡ 16) (m : ℕ) (q : Position) where
     -- an open move is a slide

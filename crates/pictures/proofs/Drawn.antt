@@ -90,10 +90,6 @@ cells_of_symbols (x ∷ xs) ls =
     ap (λ o. before o (cells_of (map symbol_of xs))) (drawn_back x (ls 0))
     ∙ ap (onto x) (cells_of_symbols xs (lettered_rest x xs ls))
 
--- no cells are not some cells
-pub never : {A : Type 0} (a : A) → None ≡ Some a → ⊥
-never a e = cc
-
 -- where cells are drawn, the first is, and the others are
 pub parts : (o : Option Cell) (rest : Option (List Cell)) (ys : List Cell) → before o rest ≡ Some ys → (x : Cell) × (xs : List Cell) × (o ≡ Some x) × (rest ≡ Some xs) × (x ∷ xs ≡ ys)
 parts (Some x) (Some xs) ys e = (x, xs, refl, refl, cc)
