@@ -123,19 +123,6 @@ impl Reader {
             _ => Err(Fault::LineForm),
         }
     }
-
-    // The level, once no line is left; `number` is the line that would come next.
-    fn finish(self, number: usize) -> Result<AtomLevel, Refusal>
-        requires { 0 < number }
-        ensures { told result ≡ finish number (view self) }
-    {
-        match self {
-            Reader::End(board, molecule) => AtomLevel::new(&board, &molecule).map_err(
-                |fault| fault.at(number - 1),
-            ),
-            _ => Err(Fault::LineForm.at(number)),
-        }
-    }
 }
 
 impl LineReader for Reader {
@@ -148,6 +135,19 @@ impl LineReader for Reader {
     }
 }
 
+// The level, once no line is left.
+fn finish(read: ReadText<Reader>) -> Result<AtomLevel, Refusal>
+    ensures { told result ≡ finish read.entry.number (view read.entry.reader) }
+{
+    let ReadText { reader, number, .. } = read;
+    match reader {
+        Reader::End(board, molecule) => AtomLevel::new(&board, &molecule).map_err(|fault| fault.at(
+            number - 1,
+        )),
+        _ => Err(Fault::LineForm.at(number)),
+    }
+}
+
 /// Reads the text of a level: the line `(atomix W H`, a line `(row X)` for each row of the board, one to sixteen lines
 /// `(want X)` for the rows of the molecule, and the line `)`.
 pub fn read_level(text: &[u8]) -> Result<AtomLevel, Refusal>
@@ -157,6 +157,5 @@ pub fn read_level(text: &[u8]) -> Result<AtomLevel, Refusal>
     if !is_text(text) {
         return Err(Fault::NotText.at(0));
     }
-    let ReadText { reader, number, .. } = read_lines(Reader::Head, text)?;
-    reader.finish(number)
+    finish(read_lines(Reader::Head, text)?)
 }

@@ -2,7 +2,7 @@
 use Rattle.std.specs.Prelude.{◌≡◌, ℕ, ◌+◌, List, [], ◌∷◌, Ok, Err, Option, Result, MatchOption, MatchResult}
 use Rattle.text.specs.declared.line.Line.{Line}
 use Rattle.text.specs.declared.numbered.Lines.{Lines}
-use Rattle.text.specs.declared.reader.ReadText.{ReadText}
+use Rattle.text.specs.declared.read_text.ReadText.{ReadText}
 use Rattle.text.specs.Lines.{split, bytes, Reading, reading}
 
 -- the parts of the text that are left

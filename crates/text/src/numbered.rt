@@ -3,7 +3,7 @@ ghost use Rattle.std.specs.Iterator.{at_most};
 
 use super::line::{Line, next_line};
 
-/// The lines of a text that line ends follow, each with its number.
+/// What is left of a text, line by line, each line with its number. What no line end follows is no line.
 #[derive(Clone, Copy)]
 pub(crate) struct Lines<'a> {
     /// What is left of the text.
@@ -18,7 +18,7 @@ pub(crate) struct Lines<'a> {
 impl<'a> Lines<'a> {
     ghost use Rattle.std.specs.Prelude.{◌≡◌};
 
-    // All lines of a text, the first with number 1.
+    /// All lines of a text, the first with number 1.
     pub fn of(text: &'a [u8]) -> Self
         ensures whole { result.left.text.now ≡ text.now }
         ensures front { result.left.at ≡ 0 }

@@ -4,7 +4,7 @@ ghost use Rattle.text.specs.Pieces.{said, plain, of_run, piece_in, told_piece, W
 
 use super::line::Line;
 use super::number::read_number;
-use super::run::{ByteClass, run_end};
+use super::run::{ByteClass, bytes_from, run_end};
 
 /// A piece of a line: a bracket, a number of one to seven digits without leading zero, or any other word.
 #[derive(Clone, Copy, Debug, PartialEq, Eq)]
@@ -47,7 +47,7 @@ impl<'a> Line<'a> {
     pub fn as_bytes(self) -> &'a [u8]
         ensures { result.now ≡ bytes self.entry }
     {
-        self.text.get(self.at..).unwrap_or(b"")
+        bytes_from(self.text, self.at)
     }
 
     /// Whether nothing is left.

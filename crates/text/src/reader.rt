@@ -4,6 +4,7 @@ ghost use Rattle.text.specs.Reading.{ReadsLines, told_read};
 
 use super::line::Line;
 use super::numbered::Lines;
+use super::read_text::ReadText;
 
 /// What takes a text line by line.
 pub trait LineReader: Sized {
@@ -16,21 +17,9 @@ pub trait LineReader: Sized {
         ensures { Takes self number (bytes line.entry) result };
 }
 
-/// A text whose lines were all taken.
-#[derive(Drop)]
-pub struct ReadText<'a, R> {
-    /// The state after them.
-    pub reader: R,
-    /// The number that the next line would have.
-    pub number: usize,
-    /// What no line end follows.
-    pub left: Line<'a>,
-}
-
 /// Takes the lines of a text one after the other, the first with number 1, and stops where one is refused.
 pub fn read_lines<'a, R: LineReader>(start: R, text: &'a [u8]) -> Result<ReadText<'a, R>, R::Error>
-    ensures reads { ReadsLines R.Takes start 1 (split text.now) (told_read result) }
-    ensures numbered { IfOk result (λ read. 0 < read.number) }
+    ensures { ReadsLines R.Takes start 1 (split text.now) (told_read result) }
 {
     let mut reader = start;
     let mut lines = Lines::of(text);

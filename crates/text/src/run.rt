@@ -14,6 +14,13 @@ pub fn run_end<C: ByteClass>(text: &[u8], from: usize) -> usize
     ensures ends { result ≡ from + prefix_len C.has (drop from text.now) }
     ensures inside { from ≤ length text.now → result ≤ length text.now }
 {
-    let run = text.iter().skip(from).take_while(|b| C::has(**b));
-    from + run.count()
+    let rest = bytes_from(text, from);
+    from + rest.iter().take_while(|b| C::has(**b)).count()
+}
+
+/// The bytes of a text from a place on.
+pub(crate) fn bytes_from(text: &[u8], from: usize) -> &[u8]
+    ensures { result.now ≡ drop from text.now }
+{
+    text.get(from..).unwrap_or(b"")
 }

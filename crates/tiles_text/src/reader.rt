@@ -85,7 +85,7 @@ impl Rows {
             tiles += u64::from(tile) << (BITS_PER_CELL * column);
             rest = after;
         }
-        if rest.is_empty() { Some(tiles) } else { None }
+        rest.is_empty().then_some(tiles)
     }
 
     // With one row more, and what is due then.
@@ -122,19 +122,6 @@ impl Reader {
             _ => Err(Fault::LineForm),
         }
     }
-
-    // The level, once no line is left; `number` is the line that would come next.
-    fn finish(self, number: usize) -> Result<TileLevel, Refusal>
-        requires { 0 < number }
-        ensures { told result ≡ finish number (view self) }
-    {
-        match self {
-            Reader::End(board) => TileLevel::new(board.grid, board.cells).ok_or(
-                Fault::TileNumbers.at(number - 1),
-            ),
-            _ => Err(Fault::LineForm.at(number)),
-        }
-    }
 }
 
 impl LineReader for Reader {
@@ -147,6 +134,18 @@ impl LineReader for Reader {
     }
 }
 
+// The level, once no line is left.
+fn finish(read: ReadText<Reader>) -> Result<TileLevel, Refusal>
+    ensures { told result ≡ finish read.entry.number (view read.entry.reader) }
+{
+    match read.reader {
+        Reader::End(board) => TileLevel::new(board.grid, board.cells).ok_or(Fault::TileNumbers.at(
+            read.number - 1,
+        )),
+        _ => Err(Fault::LineForm.at(read.number)),
+    }
+}
+
 /// Reads the text of a level: the line `(tiles W H`, a line `(row T T T)` for each row of the board, and the line `)`.
 pub fn read_level(text: &[u8]) -> Result<TileLevel, Refusal>
     ensures reads { told result ≡ read_level text.now }
@@ -155,6 +154,5 @@ pub fn read_level(text: &[u8]) -> Result<TileLevel, Refusal>
     if !is_text(text) {
         return Err(Fault::NotText.at(0));
     }
-    let ReadText { reader, number, .. } = read_lines(Reader::Head, text)?;
-    reader.finish(number)
+    finish(read_lines(Reader::Head, text)?)
 }

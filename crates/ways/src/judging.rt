@@ -1,5 +1,6 @@
-ghost use Rattle.std.specs.Prelude.{◌≡◌, ◌+◌, ◌<◌, IfOk};
+ghost use Rattle.std.specs.Prelude.{◌≡◌, ◌+◌, ◌==◌, length, IfOk};
 ghost use Rattle.std.specs.Coded.{Coded-set};
+ghost use Rattle.text.specs.Lines.{bytes};
 ghost use Rattle.text.specs.Reading.{seen};
 ghost use Rattle.ways.specs.Judging.{judged, AcceptsExactly};
 ghost use Rattle.ways.specs.Passing.{placed, IfLed, IfLed-prop, IsCounted, taken, finished};
@@ -8,7 +9,7 @@ use crate::kind::Kind;
 use crate::progress::{Made, Progress};
 use crate::walk::Walk;
 use refusals::{Fault, Refusal};
-use text::{Line, LineReader, read_lines};
+use text::{Line, LineReader, ReadText, read_lines};
 
 /// The word that opens a way.
 const WAY: &[u8] = b"way";
@@ -47,25 +48,27 @@ impl<'a, K: Kind> LineReader for WayReader<'a, K> {
     }
 }
 
-impl<'a, K: Kind> WayReader<'a, K> {
-    /// The judgement at the end of a text, where line `number` would come next.
-    fn conclude(self, number: usize, at_end: bool) -> Result<u32, Refusal>
-        requires { 0 < number }
-        ensures { result ≡ finished (K.Kind.notation self.entry.kind.now) (placed (λ walk. walk.position) self.entry.progress) number at_end }
-    {
-        let WayReader { progress, .. } = self;
-        let made = match progress {
-            Progress::Closed(made) if at_end => made,
-            _ => return Err(Fault::WayForm.at(number)),
-        };
-        if made.announced as usize != made.count {
-            return Err(Fault::WayForm.at(1));
-        }
-        if !made.led?.is_goal() {
-            return Err(Fault::NotFinished.at(number - 1));
-        }
-        Ok(made.announced)
+/// The judgement at the end of a text.
+fn conclude<K: Kind>(read: ReadText<WayReader<K>>) -> Result<u32, Refusal>
+    ensures { result ≡ finished (K.Kind.notation read.entry.reader.kind.now) (placed (λ walk. walk.position) read.entry.reader.progress) read.entry.number (length (bytes read.entry.left) == 0) }
+{
+    let ReadText {
+        reader,
+        number,
+        left,
+    } = read;
+    let WayReader { progress, .. } = reader;
+    let made = match progress {
+        Progress::Closed(made) if left.is_empty() => made,
+        _ => return Err(Fault::WayForm.at(number)),
+    };
+    if made.announced as usize != made.count {
+        return Err(Fault::WayForm.at(1));
     }
+    if !made.led?.is_goal() {
+        return Err(Fault::NotFinished.at(number - 1));
+    }
+    Ok(made.announced)
 }
 
 /// Judges a written way: the number of its moves if it is accepted, or why it is not.
@@ -80,6 +83,5 @@ pub fn judge<K: Kind>(kind: &K, text: &[u8]) -> Result<u32, Refusal>
         kind,
         progress: Progress::Head,
     };
-    let read = read_lines(start, text)?;
-    read.reader.conclude(read.number, read.left.is_empty())
+    conclude(read_lines(start, text)?)
 }

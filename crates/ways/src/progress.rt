@@ -27,7 +27,7 @@ pub(crate) enum Progress<W> {
 }
 
 impl<'a, K: Kind> Made<Walk<'a, K>> {
-    // One move more, as it is written on a line. No text has so many lines that the count ends.
+    /// One move more, as it is written on a line. No text has so many lines that the count could overflow.
     pub(crate) fn with_move(self, written: &K::Written, line: usize) -> Self
         ensures announced { result.announced ≡ self.entry.announced }
         ensures counts { self.entry.count + 1 < 2 ^ 64 → result.count ≡ self.entry.count + 1 }

@@ -2,8 +2,8 @@ use Rattle.std.proofs.lemmas.Result.{err_from_is_err_and}
 use Rattle.text.proofs.Taking.{line_taken, line_refused}
 use Rattle.text.proofs.reader.read_lines.Goals as goal
 
-pub returns-in_err-reader-clause-reads : goal.returns-in_err-reader-clause-reads
-returns-in_err-reader-clause-reads g c =
+pub returns-in_err-reader : goal.returns-in_err-reader
+returns-in_err-reader g c =
     let p = err_from_is_err_and c.from_residual.result c.from_residual.ensures.1 in
     rw (p.1, p.2)
     (c.loop-number.invariant.2 _ (line_refused g.R.LineReader.Takes _ c.loop-number.lines c.next.new.self c.in-Some.number c.in-Some.line c.in-Some.ensures.steps _ c.in_err-reader.ensures))

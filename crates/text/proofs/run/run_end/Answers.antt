@@ -1,6 +1,6 @@
-use Rattle.std.proofs.Common.{◌+◌, drop, ap, ◌∙◌, rules, tests}
+use Rattle.std.proofs.Common.{◌+◌, ap, ◌∙◌, rules, tests}
+use Rattle.std.specs.List.{prefix_len}
 use Rattle.std.proofs.lemmas.Iterator.{YieldsList-from_slice}
-use Rattle.std.proofs.lemmas.Iterator.Adapters.{YieldsList-from_skip}
 use Rattle.std.proofs.lemmas.Iterator.Consumers.{YieldsList-at, count_from_yields_List}
 use Rattle.std.proofs.lemmas.Iterator.Search.{YieldsList-from_take_while}
 use Rattle.std.proofs.lemmas.List.Folds.{length-prefix_len}
@@ -9,11 +9,12 @@ use Rattle.text.proofs.run.run_end.Goals as goal
 pub returns-clause-ends : goal.returns-clause-ends
 returns-clause-ends g c =
     let has = g.C.ByteClass.has in
-    let t = c.args.text.now in
+    let rest = c.bytes_from-rest.result.now in
     let from = c.args.from in
     ap (λ k. from + k)
-    (count_from_yields_List c.take_while-run.result _ c.count.ensures.ran
+    (count_from_yields_List c.take_while.result _ c.count.ensures.ran
     (YieldsList-from_take_while _ has
-    (YieldsList-at c.take_while-run.ensures.source (YieldsList-from_skip from (YieldsList-at c.skip.ensures.source (YieldsList-from_slice t cc)) c.skip.ensures.count))
-    c.take_while-run.ensures.closure c.take_while-run.ensures.done (λ x b q k. search (rules, tests)))
-    ∙ length-prefix_len has (drop from t))
+    (YieldsList-at c.take_while.ensures.source (YieldsList-from_slice rest cc))
+    c.take_while.ensures.closure c.take_while.ensures.done (λ x b q k. search (rules, tests)))
+    ∙ length-prefix_len has rest
+    ∙ ap (prefix_len has) c.bytes_from-rest.ensures)

@@ -21,18 +21,18 @@ read text r is reads =
 pub returns-then-not-is_text : goal.returns-then-not-is_text
 returns-then-not-is_text c = record { reads = search rules; exactly = reads_exactly _ }
 
-pub returns-in_err-reader : goal.returns-in_err-reader
-returns-in_err-reader c =
+pub returns-in_err-read_lines : goal.returns-in_err-read_lines
+returns-in_err-read_lines c =
     let p = err_from_is_err_and c.from_residual.result c.from_residual.ensures.1 in
     record {
       reads =
           ap told (p.1 ∙ ap Err p.2)
-          ∙ read c.args.text.now _ (sym c.if-not-is_text.false ∙ c.is_text.ensures) c.in_err-reader.ensures.reads;
+          ∙ read c.args.text.now _ (sym c.if-not-is_text.false ∙ c.is_text.ensures) c.in_err-read_lines.ensures;
       exactly = reads_exactly _;
     }
 
 pub returns : goal.returns
 returns c = record {
-  reads = c.finish.ensures ∙ read c.args.text.now _ (sym c.if-not-is_text.false ∙ c.is_text.ensures) c.in_ok-reader.ensures.reads;
+  reads = c.finish.ensures ∙ read c.args.text.now _ (sym c.if-not-is_text.false ∙ c.is_text.ensures) c.in_ok-read_lines.ensures;
   exactly = reads_exactly _;
 }
