@@ -58,7 +58,7 @@ pub(crate) fn writes_back<F: Fn(&[u8], &mut [u8]) -> Result<usize, Refusal>>(
 }
 
 // A way is written as its row says.
-pub(crate) fn written_so<P: Copy, K: Kind<Position = P>>(
+pub(crate) fn written_so<K: Kind>(
     rt: &impl Abort,
     level: &K,
     moves: &[u32],

@@ -7,7 +7,7 @@
 use judgement::{judge_texts, report};
 use std::io::{Read, Write};
 use std::process::ExitCode;
-use std::{env, fs, io};
+use std::{env, fmt, fs, io};
 
 /// What failed, by its name, and why.
 #[derive(Drop)]
@@ -16,12 +16,10 @@ struct Failure<'a> {
     error: io::Error,
 }
 
-impl Failure<'_> {
-    /// Says on standard error what failed and why, and gives the status to end with.
-    fn say(&self, rt: &HostRuntime) -> ExitCode {
+impl fmt::Display for Failure<'_> {
+    fn fmt<W: fmt::Write>(&self, f: &mut fmt::Formatter<W>) -> fmt::Result {
         let Failure { name, error } = self;
-        let _ = eprintln!(rt; "judge: {name}: {error}");
-        ExitCode::FAILURE
+        write!(f, "judge: {name}: {error}")
     }
 }
 
@@ -36,9 +34,8 @@ fn read_bytes<'a>(rt: &HostRuntime, name: &'a str) -> Result<Vec<u8>, Failure<'a
     bytes.map_err(|error| Failure { name, error })
 }
 
-/// Writes the judgement of a way for a level, both as texts, to standard output.
-fn write_judgement(rt: &HostRuntime, level_text: &[u8], way_text: &[u8]) -> io::Result<()> {
-    let answer = report(rt.alloc(), judge_texts(level_text, way_text))?;
+/// Writes the answer to standard output.
+fn write_answer(rt: &HostRuntime, answer: &str) -> io::Result<()> {
     let mut out = rt.stdout();
     out.write_all(answer.as_bytes())?;
     out.flush()
@@ -47,10 +44,21 @@ fn write_judgement(rt: &HostRuntime, level_text: &[u8], way_text: &[u8]) -> io::
 fn judge_files<'a>(rt: &HostRuntime, level: &'a str, way: &'a str) -> Result<(), Failure<'a>> {
     let level_text = read_bytes(rt, level)?;
     let way_text = read_bytes(rt, way)?;
-    write_judgement(rt, &level_text, &way_text).map_err(|error| Failure {
+    let judgement = judge_texts(&level_text, &way_text);
+    let answer = report(rt.alloc(), judgement).map_err(|error| Failure {
+        name: "the answer",
+        error: error.into(),
+    })?;
+    write_answer(rt, &answer).map_err(|error| Failure {
         name: "standard output",
         error,
     })
+}
+
+/// Says on standard error why the program fails, and gives the status to end with.
+fn fail(rt: &HostRuntime, why: impl fmt::Display + Drop) -> ExitCode {
+    let _ = eprintln!(rt; "{why}");
+    ExitCode::FAILURE
 }
 
 fn main(rt: HostRuntime) -> ExitCode {
@@ -58,15 +66,14 @@ fn main(rt: HostRuntime) -> ExitCode {
         Ok(args) => args.skip(1),
         Err(error) => {
             let name = "arguments";
-            return Failure { name, error }.say(&rt);
+            return fail(&rt, Failure { name, error });
         }
     };
     let (Some(level), Some(way), None) = (args.next(), args.next(), args.next()) else {
-        let _ = eprintln!(rt; "usage: judge LEVEL WAY");
-        return ExitCode::FAILURE;
+        return fail(&rt, "usage: judge LEVEL WAY");
     };
     match judge_files(&rt, &level, &way) {
         Ok(()) => ExitCode::SUCCESS,
-        Err(failure) => failure.say(&rt),
+        Err(failure) => fail(&rt, failure),
     }
 }
