@@ -141,9 +141,10 @@ fn finish(read: ReadText<Reader>) -> Result<AtomLevel, Refusal>
 {
     let ReadText { reader, number, .. } = read;
     match reader {
-        Reader::End(board, molecule) => AtomLevel::new(&board, &molecule).map_err(|fault| fault.at(
-            number - 1,
-        )),
+        Reader::End(board, molecule) => {
+            let level = AtomLevel::new(&board, &molecule);
+            level.map_err(|fault| fault.at(number - 1))
+        }
         _ => Err(Fault::LineForm.at(number)),
     }
 }

@@ -138,11 +138,13 @@ impl LineReader for Reader {
 fn finish(read: ReadText<Reader>) -> Result<TileLevel, Refusal>
     ensures { told result ≡ finish read.entry.number (view read.entry.reader) }
 {
-    match read.reader {
-        Reader::End(board) => TileLevel::new(board.grid, board.cells).ok_or(Fault::TileNumbers.at(
-            read.number - 1,
-        )),
-        _ => Err(Fault::LineForm.at(read.number)),
+    let ReadText { reader, number, .. } = read;
+    match reader {
+        Reader::End(board) => {
+            let level = TileLevel::new(board.grid, board.cells);
+            level.ok_or(Fault::TileNumbers.at(number - 1))
+        }
+        _ => Err(Fault::LineForm.at(number)),
     }
 }
 

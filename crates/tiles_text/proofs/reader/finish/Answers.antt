@@ -6,6 +6,6 @@ use Rattle.tiles_text.proofs.reader.finish.Goals as goal
 
 pub returns-in-End : goal.returns-in-End
 returns-in-End c =
-    ap told (c.ok_or.ensures.value ∙ ap (ok_or c.new.result) c.at.ensures)
-    ∙ finish_judged c.in-End.board c.args.read.number c.new.result c.new.ensures
+    ap told (c.ok_or.ensures.value ∙ ap (ok_or c.new-level.result) c.at.ensures)
+    ∙ finish_judged c.in-End.board c.args.read.number c.new-level.result c.new-level.ensures
     ∙ ap (λ r. finish c.args.read.number (view r)) (sym c.in-End.is)
