@@ -30,9 +30,9 @@ impl Overlay<'_> {
     {
         let place = usize::from(self.place);
         let width = usize::from(self.board.grid().width);
-        let drawn = usize::from(self.molecule.grid().width);
-        let row = place / width + i / drawn;
-        let column = place % width + i % drawn;
+        let molecule_width = usize::from(self.molecule.grid().width);
+        let row = place / width + i / molecule_width;
+        let column = place % width + i % molecule_width;
         if column < width {
             self.board.cell(row * width + column)
         } else {
@@ -47,11 +47,11 @@ impl Overlay<'_> {
         let width = self.board.grid().width;
         let (top, left) = (self.place / width, self.place % width);
         let (row, column) = (cell / width, cell % width);
-        let drawn = self.molecule.grid().width;
-        if row < top || column < left || column - left >= drawn {
+        let molecule_width = self.molecule.grid().width;
+        if row < top || column < left || column - left >= molecule_width {
             return Cell::Wall;
         }
-        let part = usize::from(row - top) * usize::from(drawn) + usize::from(column - left);
+        let part = usize::from(row - top) * usize::from(molecule_width) + usize::from(column - left);
         self.molecule.cell(part)
     }
 }
