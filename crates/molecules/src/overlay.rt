@@ -19,8 +19,11 @@ impl Overlay<'_> {
     pub(crate) fn fits(&self) -> bool
         ensures { result ≡ is_place (shape self.now.board.now) (shape self.now.molecule.now) self.now.place }
     {
-        let cells = self.molecule.cells().len();
-        (0..cells).all(|i| !is_atom(self.molecule.cell(i)) || self.under(i) != Cell::Wall)
+        self.molecule
+            .cells()
+            .iter()
+            .enumerate()
+            .all(|(i, &cell)| !is_atom(cell) || self.under(i) != Cell::Wall)
     }
 
     // The cell of the board under cell `i` of the molecule. Beyond the border all is wall.
@@ -51,7 +54,8 @@ impl Overlay<'_> {
         if row < top || column < left || column - left >= molecule_width {
             return Cell::Wall;
         }
-        let part = usize::from(row - top) * usize::from(molecule_width) + usize::from(column - left);
+        let part = usize::from(row - top) * usize::from(molecule_width)
+            + usize::from(column - left);
         self.molecule.cell(part)
     }
 }
