@@ -8,9 +8,10 @@ use Rattle.std.proofs.lemmas.List.Sums.{length-filter}
 use Rattle.std.proofs.lemmas.Simd.{map-map}
 use Rattle.pictures.specs.declared.cell.Cell.{Cell}
 use Rattle.pictures.specs.declared.cell.Cell.TheVariants.{Wall, Free, Atom}
+use Rattle.pictures.specs.Cells.{label_in}
 use Rattle.pictures.specs.Pictures.{Shape, cell_at}
 use Rattle.molecules.specs.Atoms.{is_atom, atom_count}
-use Rattle.atoms.specs.Board.{atom_cells, label_in, label_of, labels_of, filled}
+use Rattle.atoms.specs.Board.{atom_cells, label_of, labels_of, filled}
 
 -- what passes of what a function gives, is what it gives of what passes before it
 filter-map : {X Y : Type 0} (test : Y → Bool) (f : X → Y) (xs : List X) → filter test (map f xs) ≡ map f (filter (λ x. test (f x)) xs)

@@ -1,5 +1,5 @@
 -- The atoms of a board and where they stand. Assumes nothing.
-use Rattle.std.specs.Prelude.{ℕ, ◌-◌, Bool, List, ◌++◌, map, length, replicate, filter, Some, None, Option, slice_index_or}
+use Rattle.std.specs.Prelude.{ℕ, ◌-◌, Bool, List, ◌++◌, map, length, replicate, filter, slice_index_or}
 use Rattle.std.specs.List.{range_with_len}
 use Rattle.pictures.specs.declared.cell.Cell.{Cell}
 use Rattle.pictures.specs.declared.cell.Cell.TheVariants.{Wall, Free, Atom}
@@ -9,11 +9,6 @@ use Rattle.molecules.specs.Atoms.{is_wall, is_atom}
 -- the cells of the atoms in reading order: the atom with number a stands on the cell at place a of the list
 abbrev pub atom_cells : Shape → List ℕ
 atom_cells b = filter (λ i. is_atom (cell_at b i)) (range_with_len 0 (length b.cells))
-
-abbrev pub label_in : Cell → Option ℕ
-label_in Wall = None
-label_in Free = None
-label_in (Atom x) = Some x
 
 abbrev pub label_of : Cell → ℕ
 label_of Wall = 0

@@ -17,7 +17,7 @@ mod moves;
 /// An atom level: a board with 1 to 16 atoms, and a molecule of just these labels whose edges hold atoms.
 ///
 /// Atoms are numbered from 0 in reading order.
-#[derive(Clone, Copy)]
+#[derive(Clone, Copy, Debug)]
 pub struct AtomLevel {
     board: Picture,
     molecule: Molecule,

@@ -36,7 +36,7 @@ impl Compose for AtomMove {
 }
 
 /// An atom level, as ways see it.
-#[derive(Clone, Copy)]
+#[derive(Clone, Copy, Debug)]
 pub struct AtomKind(pub AtomLevel);
 
 impl Kind for AtomKind {

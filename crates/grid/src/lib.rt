@@ -8,10 +8,10 @@ ghost use Rattle.grid.specs.Grid.{SaysNumber, SaysWord, IsNumberOf, WordReadsBac
 /// One of the four ways along a row or a column.
 #[derive(Clone, Copy, Debug, PartialEq, Eq)]
 pub enum Direction {
-    Up,
-    Down,
-    Left,
-    Right,
+    Up = 0,
+    Down = 1,
+    Left = 2,
+    Right = 3,
 }
 
 /// A number or a word that names no direction.
@@ -49,12 +49,7 @@ impl From<Direction> for u32 {
     ghost from_gives = { IsNumberOf };
 
     fn from(direction: Direction) -> u32 {
-        match direction {
-            Direction::Up => 0,
-            Direction::Down => 1,
-            Direction::Left => 2,
-            Direction::Right => 3,
-        }
+        direction as u32
     }
 }
 
@@ -132,11 +127,8 @@ impl Grid {
         ensures back { CellReadsBack self.width self.height place }
     {
         let width = usize::from(self.width);
-        if place.row < usize::from(self.height) && place.column < width {
-            Some(place.row * width + place.column)
-        } else {
-            None
-        }
+        (place.row < usize::from(self.height) && place.column < width).then(|| place.row * width
+            + place.column)
     }
 
     /// The cell one step on from `cell`; none past the edge, and none from a cell that is not on the board.

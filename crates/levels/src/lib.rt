@@ -12,7 +12,7 @@ use tiles::TileLevel;
 const ATOMS: &[u8] = b"(atomix ";
 
 /// A level of either kind.
-#[derive(Clone, Copy)]
+#[derive(Clone, Copy, Debug)]
 pub enum Level {
     Tiles(TileLevel),
     Atoms(AtomLevel),

@@ -1,7 +1,11 @@
 -- Where a molecule can lie on a board, cell by cell. Assumes nothing.
-use Rattle.std.proofs.Common.{◌≡◌, ℕ, ◌<◌, Bool, true, false, not, ◌||◌, length, ap, ⊎_elim}
+use Rattle.std.proofs.Common.{◌≡◌, ℕ, ◌<◌, Bool, true, false, not, ◌||◌, length, ap, ◌∙◌, zero-add, ⊎_elim}
+use Rattle.std.specs.List.{list_all, enumerate_from}
 use Rattle.std.proofs.lemmas.List.{get_or_past}
+use Rattle.std.proofs.lemmas.List.Folds.{list_all-map}
+use Rattle.std.proofs.lemmas.List.FromFn.{fill_by_all, length-enumerate_from, get_or-enumerate_from}
 use Rattle.std.proofs.lemmas.Bool.{cases_Bool, cases_lt, or_cases, or_left, or_right, not-true, not_from_false, both_ways}
+use Rattle.pictures.specs.declared.cell.Cell.{Cell}
 use Rattle.pictures.specs.declared.cell.Cell.TheVariants.{Wall}
 use Rattle.pictures.specs.Pictures.{Shape, cell_at}
 use Rattle.molecules.specs.Atoms.{is_atom, is_wall}
@@ -36,3 +40,14 @@ module _ (b m : Shape) (place : ℕ) where
   goal_is_place goal =
       every_below_from (length m.cells) (λ k. lies k)
       (λ i h. ⊎_elim (λ atom. no_wall_lies i (goal i atom)) (no_atom_lies i) (cases_Bool (is_atom (cell_at m i))))
+
+  -- the same, asked of a cell of the molecule with its number
+  abbrev pub lies_numbered : ℕ × Cell → Bool
+  lies_numbered p = not (is_atom p.1) || not (is_wall (under b m place p.0))
+
+  pub is_place_numbered : list_all lies_numbered (enumerate_from 0 m.cells) ≡ is_place b m place
+  is_place_numbered =
+      let numbered : ℕ → ℕ × Cell = λ k. (k, cell_at m k) in
+      ap (list_all lies_numbered)
+      (fill_by_all numbered (enumerate_from 0 m.cells) _ (0, Wall) (length-enumerate_from 0 m.cells) (λ k h. get_or-enumerate_from 0 m.cells k (0, Wall) h ∙ ap (λ j. (j, cell_at m k)) (zero-add k)))
+      ∙ list_all-map lies_numbered numbered _

@@ -8,7 +8,7 @@ use pictures::{Cell, Picture};
 pub(crate) fn is_atom(cell: Cell) -> bool
     ensures { result ≡ is_atom cell }
 {
-    matches!(cell, Cell::Atom(_))
+    cell.label().is_some()
 }
 
 /// How many atoms a picture shows.

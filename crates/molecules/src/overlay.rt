@@ -19,8 +19,11 @@ impl Overlay<'_> {
     pub(crate) fn fits(&self) -> bool
         ensures { result ≡ is_place (shape self.now.board.now) (shape self.now.molecule.now) self.now.place }
     {
-        let cells = self.molecule.cells().len();
-        (0..cells).all(|i| !is_atom(self.molecule.cell(i)) || self.under(i) != Cell::Wall)
+        self.molecule
+            .cells()
+            .iter()
+            .enumerate()
+            .all(|(i, &cell)| !is_atom(cell) || self.under(i) != Cell::Wall)
     }
 
     // The cell of the board under cell `i` of the molecule. Beyond the border all is wall.
@@ -30,9 +33,9 @@ impl Overlay<'_> {
     {
         let place = usize::from(self.place);
         let width = usize::from(self.board.grid().width);
-        let drawn = usize::from(self.molecule.grid().width);
-        let row = place / width + i / drawn;
-        let column = place % width + i % drawn;
+        let molecule_width = usize::from(self.molecule.grid().width);
+        let row = place / width + i / molecule_width;
+        let column = place % width + i % molecule_width;
         if column < width {
             self.board.cell(row * width + column)
         } else {
@@ -47,11 +50,12 @@ impl Overlay<'_> {
         let width = self.board.grid().width;
         let (top, left) = (self.place / width, self.place % width);
         let (row, column) = (cell / width, cell % width);
-        let drawn = self.molecule.grid().width;
-        if row < top || column < left || column - left >= drawn {
+        let molecule_width = self.molecule.grid().width;
+        if row < top || column < left || column - left >= molecule_width {
             return Cell::Wall;
         }
-        let part = usize::from(row - top) * usize::from(drawn) + usize::from(column - left);
+        let part = usize::from(row - top) * usize::from(molecule_width)
+            + usize::from(column - left);
         self.molecule.cell(part)
     }
 }

@@ -4,6 +4,12 @@ use Rattle.pictures.specs.declared.cell.Cell.{Cell}
 use Rattle.pictures.specs.declared.cell.UnknownSymbol.{UnknownSymbol}
 use Rattle.pictures.specs.declared.cell.Cell.TheVariants.{Wall, Free, Atom}
 
+-- the label of the atom on a cell
+abbrev pub label_in : Cell → Option ℕ
+label_in Wall = None
+label_in Free = None
+label_in (Atom x) = Some x
+
 -- the character that draws a cell
 abbrev pub symbol_of : Cell → ℕ
 symbol_of Wall = 35

@@ -1,5 +1,5 @@
 ghost use Rattle.std.specs.Prelude.{◌≡◌};
-ghost use Rattle.pictures.specs.Cells.{symbol_of, Draws, DrawsOne, DrawnBack};
+ghost use Rattle.pictures.specs.Cells.{label_in, symbol_of, Draws, DrawsOne, DrawnBack};
 
 /// What is drawn on a cell.
 #[derive(Clone, Copy, Debug, PartialEq, Eq)]
@@ -9,6 +9,18 @@ pub enum Cell {
     Free,
     /// An atom with its label, a letter A to Z.
     Atom(u8),
+}
+
+impl Cell {
+    /// The label of the atom on the cell; none on a wall or a free cell.
+    pub fn label(self) -> Option<u8>
+        ensures { result ≡ label_in self }
+    {
+        match self {
+            Cell::Atom(label) => Some(label),
+            Cell::Wall | Cell::Free => None,
+        }
+    }
 }
 
 /// A character that draws no cell.

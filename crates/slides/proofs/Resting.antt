@@ -1,7 +1,8 @@
 -- Where one comes to rest: the steps that are counted and the passed cells say the same. Assumes nothing.
-use Rattle.std.proofs.Common.{◌≡◌, ℕ, zero, suc, ◌+◌, ◌*◌, ◌<◌, ◌≤◌, Bool, true, false, cond, eqb, List, [], ◌∷◌, length, Some, None, Option, sym, refl, ap, ◌∙◌, subst, ⊎_elim, arith}
+use Rattle.std.proofs.Common.{◌≡◌, ℕ, zero, suc, ◌+◌, ◌*◌, ◌<◌, ◌≤◌, Bool, true, false, not, cond, eqb, List, [], ◌∷◌, length, Some, None, Option, sym, refl, ap, ◌∙◌, subst, ⊎_elim, arith}
 use mathlib.Core.Path.{fun_ext}
-use Rattle.std.proofs.lemmas.Bool.{both_ways, cases_lt, cond-true, cond-false, eqb-false, eq-eqb, ne_eqb}
+use Rattle.std.specs.Bool.{then_some}
+use Rattle.std.proofs.lemmas.Bool.{both_ways, cases_lt, cond-false, eqb-false, ne_eqb}
 use Rattle.grid.specs.declared.Direction.{Direction}
 use Rattle.grid.specs.Grid.{neighbour}
 use Rattle.grid.proofs.Laws.{neighbour_inside}
@@ -113,10 +114,14 @@ module _ (w h : ℕ) (blocked : ℕ → Bool) (d : Direction) where
 
   -- the answer from where one rests
 
-  pub slid_back : (c t : ℕ) → rest w h blocked d (w + h) c ≡ t → t ≡ c → slid w h blocked d c ≡ None
-  slid_back c t at same = cond-true _ None (Some _) (eq-eqb _ c (at ∙ same))
+  pub slid_rested : (c t : ℕ) → rest w h blocked d (w + h) c ≡ t → slid w h blocked d c ≡ then_some (not (eqb t c)) t
+  slid_rested c t at = ap (λ r. cond (eqb r c) None (Some r)) at ∙ by (eqb t c)
+    where
+      by : (back : Bool) → cond back None (Some t) ≡ then_some (not back) t
+      by true = refl
+      by false = refl
 
-  pub slid_away : (c t : ℕ) → rest w h blocked d (w + h) c ≡ t → (t ≡ c → ⊥) → slid w h blocked d c ≡ Some t
+  slid_away : (c t : ℕ) → rest w h blocked d (w + h) c ≡ t → (t ≡ c → ⊥) → slid w h blocked d c ≡ Some t
   slid_away c t at apart = cond-false _ None (Some _) (ne_eqb _ c (λ back. apart (sym at ∙ back))) ∙ ap Some at
 
   -- one is back on the first cell only before the first step

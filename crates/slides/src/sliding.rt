@@ -15,7 +15,7 @@ pub fn slide(grid: Grid, blocked: &CellSet, from: usize, direction: Direction) -
     while let Some(next) = free_neighbour(grid, blocked, at, direction) {
         at = next;
     }
-    if at == from { None } else { Some(at) }
+    (at != from).then_some(at)
 }
 
 // The next cell, unless it is blocked or beyond the border.

@@ -3,7 +3,7 @@ ghost use Rattle.pictures.specs.Pictures.{shape};
 ghost use Rattle.molecules.specs.Atoms.{atom_count};
 ghost use Rattle.molecules.specs.Molecules.{wanted};
 ghost use Rattle.slides.specs.Sets.{has};
-ghost use Rattle.atoms.specs.Board.{wall_at, label_in, labels_of, filled, start_cells};
+ghost use Rattle.atoms.specs.Board.{wall_at, labels_of, filled, start_cells};
 ghost use Rattle.atoms.specs.Making.{made, told, MakesValid};
 
 use super::AtomLevel;
@@ -48,20 +48,11 @@ fn labels_of(board: &Picture) -> [u8; AtomLevel::MOST_ATOMS]
     ensures { result ≡ filled (labels_of (shape board.now)) }
 {
     let mut labels = [0; AtomLevel::MOST_ATOMS];
-    for (atom, label) in board.cells().iter().filter_map(label).enumerate() {
+    let found = board.cells().iter().filter_map(|cell| cell.label());
+    for (atom, label) in found.enumerate() {
         labels[atom] = label;
     }
     labels
-}
-
-// The label of the atom on a cell.
-fn label(cell: &Cell) -> Option<u8>
-    ensures { result ≡ label_in cell.now }
-{
-    match *cell {
-        Cell::Atom(label) => Some(label),
-        _ => None,
-    }
 }
 
 // Where at most 16 atoms stand on the board.
@@ -74,7 +65,7 @@ fn start_of(board: &Picture) -> Position
         .cells()
         .iter()
         .enumerate()
-        .filter(|(_, cell)| matches!(cell, Cell::Atom(_)));
+        .filter(|(_, cell)| cell.label().is_some());
     for (atom, (place, _)) in atoms.enumerate() {
         cells[atom] = place as u8;
     }

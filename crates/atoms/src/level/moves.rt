@@ -40,8 +40,8 @@ impl AtomLevel {
         ensures { result ≡ atom_at (atoms self.now) position.now place }
     {
         let cell = self.board.grid().cell(place)?;
-        let mut stands = self.standing(position).iter();
-        let atom = stands.position(|at| usize::from(*at) == cell)?;
+        let mut standing = self.standing(position).iter();
+        let atom = standing.position(|at| usize::from(*at) == cell)?;
         Some(atom as u32)
     }
 
@@ -77,11 +77,11 @@ impl AtomLevel {
         ensures says { result ≡ finished (atoms self.now) position.now }
         ensures decides { Decides result (Finished (atoms self.now) position.now) }
     {
-        let stands = self.standing(position);
+        let standing = self.standing(position);
         let labels = self.labels();
         let mut found = false;
         'places: for place in self.places.as_slice() {
-            for (cell, label) in stands.iter().zip(labels) {
+            for (cell, label) in standing.iter().zip(labels) {
                 if !self.molecule.wants(&self.board, *place, *cell, *label) {
                     continue 'places;
                 }

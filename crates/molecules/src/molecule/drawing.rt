@@ -9,10 +9,7 @@ use crate::labels::{count_label, is_atom};
 use crate::overlay::Overlay;
 use pictures::{Cell, Picture};
 
-/// The character that draws a wall.
-const WALL: u8 = b'#';
-
-/// A molecule one cell wide with no row yet.
+/// A molecule of the least width, one cell, with no row yet.
 impl Default for Molecule {
     ghost is_default = { λ molecule. wanted molecule ≡ shape_of 1 0 [] };
 
@@ -113,5 +110,5 @@ impl Molecule {
 fn draws_wall(row: &[u8]) -> bool
     ensures { result ≡ any_wall row.now }
 {
-    row.contains(&WALL)
+    row.contains(&u8::from(Cell::Wall))
 }

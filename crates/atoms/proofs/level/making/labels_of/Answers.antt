@@ -2,8 +2,9 @@ use Rattle.std.proofs.Common.{◌≤◌, length, rules, tests, arith}
 use Rattle.std.proofs.lemmas.Iterator.{YieldsList-from_slice}
 use Rattle.std.proofs.lemmas.Iterator.Consumers.{YieldsList-at, YieldsList-from_filter_map, YieldsList-from_enumerate, YieldsList-turn, YieldsList-end}
 use Rattle.std.proofs.lemmas.List.{length_push}
+use Rattle.pictures.specs.Cells.{label_in}
 use Rattle.pictures.specs.Pictures.{shape}
-use Rattle.atoms.specs.Board.{label_in, labels_of}
+use Rattle.atoms.specs.Board.{labels_of}
 use Rattle.atoms.proofs.Roll.{label_turn, label_end, length_labels, fill_turn, fill_end}
 use Rattle.atoms.proofs.level.making.labels_of.Goals as goal
 
@@ -14,7 +15,7 @@ loop-atom-preserved c =
     (YieldsList-at c.into_iter-atom-iterator.ensures.into_iter_gives
     (YieldsList-from_enumerate
     (YieldsList-at c.enumerate-atom-items.ensures.source
-    (YieldsList-from_filter_map _ label_in (YieldsList-from_slice b.cells (cc)) c.filter_map.ensures.closure (λ x r q k. search (rules, tests))))
+    (YieldsList-from_filter_map _ label_in (YieldsList-from_slice b.cells (cc)) c.filter_map-found.ensures.closure (λ x r q k. search (rules, tests))))
     c.enumerate-atom-items.ensures.count))
     c.loop-atom.yielded c.loop-atom.atom-iterator c.loop-atom.yielded_by _ _ _ c.in-Some.is c.next.ensures.steps in
     let few : length (labels_of b) ≤ 16 = omega (arith, length_labels b) in
@@ -27,7 +28,7 @@ returns c =
     (YieldsList-at c.into_iter-atom-iterator.ensures.into_iter_gives
     (YieldsList-from_enumerate
     (YieldsList-at c.enumerate-atom-items.ensures.source
-    (YieldsList-from_filter_map _ label_in (YieldsList-from_slice b.cells (cc)) c.filter_map.ensures.closure (λ x r q k. search (rules, tests))))
+    (YieldsList-from_filter_map _ label_in (YieldsList-from_slice b.cells (cc)) c.filter_map-found.ensures.closure (λ x r q k. search (rules, tests))))
     c.enumerate-atom-items.ensures.count))
     c.loop-atom.yielded c.loop-atom.atom-iterator c.loop-atom.yielded_by _ _ c.in-None.is c.next.ensures.steps in
     fill_end (labels_of b) _ _ c.loop-atom.invariant (label_end b _ end.1)
