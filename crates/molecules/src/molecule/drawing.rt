@@ -9,7 +9,7 @@ use crate::labels::{count_label, is_atom};
 use crate::overlay::Overlay;
 use pictures::{Cell, Picture};
 
-/// The narrowest molecule there is, one cell wide, with no row yet.
+/// A molecule of the least width, one cell, with no row yet.
 impl Default for Molecule {
     ghost is_default = { λ molecule. wanted molecule ≡ shape_of 1 0 [] };
 

@@ -5,7 +5,7 @@ use super::Picture;
 use crate::cell::Cell;
 use grid::Grid;
 
-/// The narrowest picture there is, one cell wide, with no row yet.
+/// A picture of the least width, one cell, with no row yet.
 impl Default for Picture {
     ghost is_default = { λ picture. shape picture ≡ shape_of 1 0 [] };
 
