@@ -3,7 +3,7 @@ use refusals::Refusal;
 use std::process::Abort;
 use ways::{Kind, write_way};
 
-// An answer: a count, or a refusal's number and its line.
+// An answer: a count, or a refusal's number, as the documents have it, and its line.
 pub(crate) type Said<T> = Result<T, (u32, usize)>;
 
 pub(crate) fn said<T>(answer: Result<T, Refusal>) -> Said<T> {

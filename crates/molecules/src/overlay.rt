@@ -26,7 +26,7 @@ impl Overlay<'_> {
             .all(|(i, &cell)| !is_atom(cell) || self.under(i) != Cell::Wall)
     }
 
-    // The cell of the board under cell `i` of the molecule. Beyond the border all is wall.
+    // The cell of the board under cell `i` of the molecule. Beyond the border, where `Grid` has no cells, all is wall.
     fn under(&self, i: usize) -> Cell
         requires { i < 256 }
         ensures { result ≡ under (shape self.now.board.now) (shape self.now.molecule.now) self.now.place i }

@@ -5,7 +5,7 @@ use pictures::Picture;
 mod finding;
 
 /// The goal places of a molecule on a board: the cells on which its first cell may lie, from the topmost on, and in a
-/// row from the leftmost on.
+/// row from the leftmost on. They lie in fixed memory, since levels have no heap and are copied.
 #[derive(Clone, Copy, Debug)]
 pub struct GoalPlaces {
     cells: [u8; Picture::MOST_CELLS],

@@ -17,6 +17,7 @@ use itoa::{Buffer, Integer};
 pub struct Pen<'a> {
     out: &'a mut [u8],
     room: usize,
+    /// Beside the room, which is told of a pen that is over, too.
     over: bool,
 }
 
@@ -83,7 +84,7 @@ impl<'a> Pen<'a> {
 
 /// A value that a pen can write as text.
 ///
-/// Unlike a `Display`, whose `fmt` may fail of itself, it always writes its text: the room alone decides.
+/// Unlike a `Display`, whose `fmt` may fail for reasons of its own, it always writes its text: the room alone decides.
 pub trait Compose {
     ghost text: { Self → List ℕ };
 

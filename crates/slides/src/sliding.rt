@@ -11,6 +11,7 @@ pub fn slide(grid: Grid, blocked: &CellSet, from: usize, direction: Direction) -
     ensures rests { result ≡ slid grid.width grid.height (has blocked.now) direction from }
     ensures exactly { SlidesExactly grid.width grid.height (has blocked.now) direction from }
 {
+    // A chain of `successors` would not be known to end.
     let mut at = from;
     while let Some(next) = free_neighbour(grid, blocked, at, direction) {
         at = next;

@@ -23,6 +23,7 @@ pub fn read_lines<'a, R: LineReader>(start: R, text: &'a [u8]) -> Result<ReadTex
 {
     let mut reader = start;
     let mut lines = Lines::of(text);
+    // A `for` would take the lines with it, and with them the number and the rest.
     while let Some((number, line)) = lines.next() {
         reader = reader.take(line, number)?;
     }

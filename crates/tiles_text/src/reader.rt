@@ -77,6 +77,7 @@ impl Rows {
         let width = usize::from(self.grid.width);
         let mut tiles = 0;
         let mut rest = row;
+        // The column says how far its tile is shifted.
         for column in 0..width {
             let (tile, after) = forms::number(rest)?;
             if tile as usize >= self.grid.cells() {

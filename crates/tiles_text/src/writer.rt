@@ -51,6 +51,7 @@ fn compose_row(cells: u64, width: u8, pen: &mut Pen) -> u64
 {
     let mut rest = cells;
     pen.put(b"(row");
+    // The next cell is always the lowest.
     for _ in 0..width {
         pen.put(b" ");
         pen.put_decimal(rest % CELL);

@@ -28,7 +28,8 @@ pub trait Kind {
     fn start(&self) -> Self::Position
         ensures { result ≡ (notation self.now).game.start };
 
-    /// Plays a move: says whether it is open, and if so fills `into` with where it leads.
+    /// Plays a move: says whether it is open, and if so fills `into` with where it leads. A position may be large, so it
+    /// is written where it is to lie.
     fn play(&self, from: &Self::Position, number: u32, into: &mut Self::Position) -> bool
         ensures { Reached (notation self.now).game from.now → Played ((notation self.now).game.move from.now number) result into.old into.new };
 

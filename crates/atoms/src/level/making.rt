@@ -49,6 +49,7 @@ fn labels_of(board: &Picture) -> [u8; AtomLevel::MOST_ATOMS]
 {
     let mut labels = [0; AtomLevel::MOST_ATOMS];
     let found = board.cells().iter().filter_map(|cell| cell.label());
+    // By place, since nothing is told of what is written through an adapter of `iter_mut`.
     for (atom, label) in found.enumerate() {
         labels[atom] = label;
     }
@@ -66,6 +67,7 @@ fn start_of(board: &Picture) -> Position
         .iter()
         .enumerate()
         .filter(|(_, cell)| cell.label().is_some());
+    // By place, as in `labels_of`.
     for (atom, (place, _)) in atoms.enumerate() {
         cells[atom] = place as u8;
     }

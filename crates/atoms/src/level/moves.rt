@@ -79,6 +79,7 @@ impl AtomLevel {
     {
         let standing = self.standing(position);
         let labels = self.labels();
+        // A misfit goes on with the next place, a fit ends the search.
         let mut found = false;
         'places: for place in self.places.as_slice() {
             for (cell, label) in standing.iter().zip(labels) {

@@ -75,6 +75,7 @@ impl Picture {
         }
         let mut cells = self.cells;
         let first = self.grid.cells();
+        // By place, since nothing is told of what is written through an adapter of `iter_mut`.
         for (column, &symbol) in row.iter().enumerate() {
             cells[first + column] = Cell::try_from(char::from(symbol)).ok()?;
         }
