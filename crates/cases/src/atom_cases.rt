@@ -1,20 +1,15 @@
 //! Atom levels and their ways.
-use crate::said::{NO_MOVES, Said, judged_so, said, writes_back, written_so};
+use crate::said::{Said, judge_level, judged_so, said, writes_back, written_so};
 use atoms_text::{read_level, write_level};
 use atoms_ways::AtomKind;
-use judgement::judge_either;
+use judgement::judge_texts;
 use refusals::Refusal;
 
 const SHELF: &str = "(atomix 3 2\n(row A..)\n(row #.B)\n(want A)\n(want B)\n)\n";
 
-// What is said of a level by the way of no moves.
-fn judge_level(level: &str) -> Result<u32, Refusal> {
-    judge_either(level.as_bytes(), NO_MOVES.as_bytes())
-}
-
 // What is said of a way for the level SHELF.
 fn judge_way(way: &str) -> Result<u32, Refusal> {
-    judge_either(SHELF.as_bytes(), way.as_bytes())
+    judge_texts(SHELF.as_bytes(), way.as_bytes())
 }
 
 // Levels that are taken, at their limits.
@@ -574,7 +569,7 @@ static OTHERS: [(&str, &str, Said<u32>); 17] = [
 #[test]
 fn judges_others(rt: HostRuntime) {
     for (level, way, due) in &OTHERS {
-        let answer = judge_either(level.as_bytes(), way.as_bytes());
+        let answer = judge_texts(level.as_bytes(), way.as_bytes());
         assert_eq!(rt; said(answer), *due, "{level}; {way}");
     }
 }

@@ -1,4 +1,5 @@
 //! What is said of a level and a way, and what a buffer holds.
+use judgement::judge_texts;
 use refusals::Refusal;
 use std::process::Abort;
 use ways::{Kind, write_way};
@@ -10,7 +11,12 @@ pub(crate) fn said<T>(answer: Result<T, Refusal>) -> Said<T> {
     answer.map_err(|refusal| (refusal.fault.into(), refusal.line))
 }
 
-pub(crate) const NO_MOVES: &str = "(way 0\n)\n";
+const NO_MOVES: &str = "(way 0\n)\n";
+
+// What is said of a level by the way of no moves.
+pub(crate) fn judge_level(level: &str) -> Result<u32, Refusal> {
+    judge_texts(level.as_bytes(), NO_MOVES.as_bytes())
+}
 
 // Each text is judged as its row says.
 pub(crate) fn judged_so<F: Fn(&str) -> Result<u32, Refusal>>(

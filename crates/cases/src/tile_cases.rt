@@ -1,5 +1,5 @@
 //! Tile levels and their ways.
-use crate::said::{NO_MOVES, Said, judged_so, writes_back, written_so};
+use crate::said::{Said, judge_level, judged_so, writes_back, written_so};
 use judgement::judge_texts;
 use refusals::Refusal;
 use tiles_text::{read_level, write_level};
@@ -8,11 +8,6 @@ use tiles_ways::TileKind;
 const RING: &str = "(tiles 2 2\n(row 0 3)\n(row 2 1)\n)\n";
 
 const FINISHED: &str = "(tiles 2 2\n(row 1 2)\n(row 3 0)\n)\n";
-
-// What is said of a level by the way of no moves.
-fn judge_level(level: &str) -> Result<u32, Refusal> {
-    judge_texts(level.as_bytes(), NO_MOVES.as_bytes())
-}
 
 // What is said of a way for the level RING.
 fn judge_way(way: &str) -> Result<u32, Refusal> {
