@@ -1,2 +1,7 @@
-//! The words that every other crate speaks of a puzzle: its game, lists of legal moves, what can be reached.
+//! The words that every other crate speaks of a puzzle: its game, lists of legal moves, what can be reached; and what a
+//! puzzle has to show before it is searched.
 #![tactic(auto)]
+
+mod puzzle;
+
+pub use puzzle::Puzzle;

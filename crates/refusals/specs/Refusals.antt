@@ -1,7 +1,7 @@
 -- The number of each refusal, and how a refusal is written. Assumes nothing.
 use Rattle.std.specs.Prelude.{ℕ, List, ◌++◌, codes, decimal}
 use Rattle.refusals.specs.declared.Fault.{Fault}
-use Rattle.refusals.specs.declared.Fault.TheVariants.{NotText, LineForm, BoardSize, BadRow, BadWant, BareEdge, AtomLabels, TileNumbers, NoRoom, WayForm, NothingThere, ClosedMove, AfterFinish, NotFinished}
+use Rattle.refusals.specs.declared.Fault.TheVariants.{NotText, LineForm, BoardSize, BadRow, BadWant, BareEdge, AtomLabels, TileNumbers, NoRoom, TableSize, ListSize, AlreadyOpen, NotOpen, NoBudget, NotSolved, ShortList, WayForm, NothingThere, ClosedMove, AfterFinish, NotFinished}
 use Rattle.refusals.specs.declared.Refusal.{Refusal}
 
 abbrev pub number_of : Fault → ℕ
@@ -14,6 +14,13 @@ number_of BareEdge = 16
 number_of AtomLabels = 17
 number_of TileNumbers = 18
 number_of NoRoom = 21
+number_of TableSize = 31
+number_of ListSize = 32
+number_of AlreadyOpen = 33
+number_of NotOpen = 34
+number_of NoBudget = 35
+number_of NotSolved = 36
+number_of ShortList = 37
 number_of WayForm = 41
 number_of NothingThere = 42
 number_of ClosedMove = 43

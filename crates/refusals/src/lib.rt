@@ -29,6 +29,20 @@ pub enum Fault {
     TileNumbers = 18,
     /// The text does not fit the buffer, or the way has too many moves to be written.
     NoRoom = 21,
+    /// The table of a search has no place, or more than 1,048,576.
+    TableSize = 31,
+    /// The number list of a search has not eight numbers for each place of the table.
+    ListSize = 32,
+    /// The search is open already.
+    AlreadyOpen = 33,
+    /// The search has not been opened.
+    NotOpen = 34,
+    /// The budget is no step.
+    NoBudget = 35,
+    /// The search has not found a shortest way.
+    NotSolved = 36,
+    /// The list has too few places for the moves.
+    ShortList = 37,
     /// A line of a way is out of form, or the way's count is wrong.
     WayForm = 41,
     /// Nothing stands where the move is said to begin.

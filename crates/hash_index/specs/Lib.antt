@@ -1,0 +1,2 @@
+pub mod Index
+pub mod Chains

@@ -1,0 +1,24 @@
+use crate::chains::Chains;
+use std::marker::Model;
+
+mod calls;
+
+/// The keys of the places of a search, over lent numbers, three for each place.
+#[derive(Drop)]
+pub struct HashIndex<'a> {
+    chains: Chains<'a>,
+    capacity: usize,
+    used: usize,
+}
+
+impl<'a> Model for HashIndex<'a> {
+    ghost use Rattle.hash_index.specs.Index.{Index};
+
+    ghost Value = { Index };
+
+    ghost use Rattle.hash_index.specs.Chains.{shown, IsIndex};
+
+    ghost view = { shown };
+
+    ghost invariant = { IsIndex };
+}

@@ -1,0 +1,67 @@
+-- The promise of a search, for every list of calls. Assumes nothing.
+use Rattle.std.specs.Prelude.{◌≡◌, ℕ, suc, ◌+◌, ◌*◌, ◌<◌, ◌≤◌, List, [], ◌∷◌, ◌++◌, length, drop, map, slice_get, Some, None, Option, Ok, Err, Result}
+use Rattle.refusals.specs.declared.Fault.{Fault}
+use Rattle.puzzle.specs.Game.{Reached}
+use Rattle.puzzle.specs.Meaning.{Meaning, Finishes}
+use Rattle.search_theory.specs.declared.Verdict.{Verdict}
+use Rattle.search_theory.specs.declared.Verdict.TheVariants.{Running, Solved, Unsolvable, TableFull}
+use Rattle.search_theory.specs.declared.Advance.{Advance}
+use Rattle.search_theory.specs.Nodes.{Node}
+use Rattle.search_theory.specs.Steps.{State}
+use Rattle.search_theory.specs.Calls.{Search, new_search, Call, opening, advance, asking, recital, Recites, RecitesWay, Run}
+
+-- no position stands twice in a list
+abbrev pub Distinct : {P : Type 0} → List P → Type 0
+Distinct {P} ps = (i j : ℕ) (p : P) → slice_get ps i ≡ Some p → slice_get ps j ≡ Some p → i ≡ j
+
+-- the steps that the advances answered
+abbrev pub answered : List Call → ℕ
+answered [] = 0
+answered (opening _ ∷ calls) = answered calls
+answered (advance _ (Ok a) ∷ calls) = a.steps + answered calls
+answered (advance _ (Err _) ∷ calls) = answered calls
+answered (asking _ ∷ calls) = answered calls
+answered (recital _ _ _ ∷ calls) = answered calls
+
+-- the budgets of the advances that were not refused
+abbrev pub granted : List Call → ℕ
+granted [] = 0
+granted (opening _ ∷ calls) = granted calls
+granted (advance budget (Ok _) ∷ calls) = budget + granted calls
+granted (advance _ (Err _) ∷ calls) = granted calls
+granted (asking _ ∷ calls) = granted calls
+granted (recital _ _ _ ∷ calls) = granted calls
+
+module _ {P : Type 0} (m : Meaning P) where
+  -- so many positions can be reached, all different
+  pub record CanReach (n : ℕ) : Type 0 where
+    pub positions : List P
+    pub many : length positions ≡ n
+    pub distinct : Distinct positions
+    pub reached : (i : ℕ) (p : P) → slice_get positions i ≡ Some p → Reached m.game p
+
+  -- what holds of an opened search that calls for a puzzle led to
+  pub record Right (calls : List Call) (s : Search P) (t : State P) : Type 0 where
+    -- solved in n: no legal moves that finish are fewer, and every recital with room for n gives n that finish
+    pub shortest : (n : ℕ) → t.verdict ≡ Solved n → (moves : List ℕ) → Finishes m m.game.start moves → n ≤ length moves
+    pub recited : (n : ℕ) → t.verdict ≡ Solved n → (before after : List ℕ) (answer : Result ℕ Fault) → Recites m s before answer after → n ≤ length before
+        → (answer ≡ Ok n) × RecitesWay m n before after
+    -- unsolvable: no legal moves finish
+    pub unsolvable : t.verdict ≡ Unsolvable → (moves : List ℕ) → Finishes m m.game.start moves → ⊥
+    -- table full: more positions can be reached than there are places
+    pub full : t.verdict ≡ TableFull → CanReach (s.places + 1)
+    -- the steps are those that the advances answered, and while it runs those that they were granted
+    pub counted : t.steps ≡ answered calls
+    pub spent : t.verdict ≡ Running → t.steps ≡ granted calls
+    -- the positions that are held: all different, each of them reached, at most one for each place, and one and M for each step
+    pub distinct : Distinct (map (λ (n : Node P). n.position) t.nodes)
+    pub room : length t.nodes ≤ s.places
+    pub few : length t.nodes ≤ 1 + m.game.count * t.steps
+    -- the verdict is final when as many steps were taken as the places multiplied by themselves
+    pub ends : t.verdict ≡ Running → t.steps < s.places * s.places
+    -- no later call changes a final verdict or its steps
+    pub final : (t.verdict ≡ Running → ⊥) → (later : List Call) (last : Search P) → Run m s later last → last ≡ s
+
+  -- For every list of calls for this puzzle on one search, new before the first.
+  abbrev pub Promise : Type 0
+  Promise = (places numbers : ℕ) (calls : List Call) (s : Search P) → Run m (new_search places numbers) calls s → (t : State P) → s.state ≡ Some t → Right calls s t
