@@ -1,0 +1,36 @@
+-- What is known of the nodes of a search at every moment. Assumes nothing.
+use Rattle.std.specs.Prelude.{◌≡◌, ℕ, ◌<◌, ◌≤◌, ◌*◌, List, [], ◌∷◌, ◌++◌, length, slice_get, Some}
+use Rattle.puzzle.specs.Game.{Reached}
+use Rattle.puzzle.specs.Meaning.{Meaning, Finishes}
+use Rattle.search_theory.specs.declared.Verdict.TheVariants.{Running, Solved}
+use Rattle.search_theory.specs.Nodes.{Node, Taken}
+use Rattle.search_theory.specs.Steps.{State}
+use Rattle.search_theory.specs.Calls.{Search}
+
+-- the moves that the links of the nodes lead along, from the start to a place
+pub data Leads {P : Type 0} (nodes : List (Node P)) (place : ℕ) (moves : List ℕ) : Type 0 where
+  start : moves ≡ [] → Leads nodes place moves
+  link : (node : Node P) (before : List ℕ) → slice_get nodes place ≡ Some node → Leads nodes node.parent before → moves ≡ before ++ (node.move ∷ []) → Leads nodes place moves
+
+module _ {P : Type 0} (m : Meaning P) where
+  -- each node holds a position that is reached, with its key and its bound, and fewer moves than there are nodes
+  pub record Known (nodes : List (Node P)) : Type 0 where
+    pub reached : (i : ℕ) (node : Node P) → slice_get nodes i ≡ Some node → Reached m.game node.position
+    pub key : (i : ℕ) (node : Node P) → slice_get nodes i ≡ Some node → node.key ≡ m.key node.position
+    pub floor : (i : ℕ) (node : Node P) → slice_get nodes i ≡ Some node → m.lower_bound node.position ≡ Some node.floor
+    pub depth : (i : ℕ) (node : Node P) → slice_get nodes i ≡ Some node → node.depth < length nodes
+
+  -- the links of the node that was finished lead along n moves that finish
+  pub record Found (nodes : List (Node P)) (n place : ℕ) : Type 0 where
+    pub moves : List ℕ
+    pub leads : Leads nodes place moves
+    pub count : length moves ≡ n
+    pub finish : Finishes m m.game.start moves
+
+  -- what is known of an opened search that only calls for this puzzle led to
+  pub record Held (s : Search P) (t : State P) : Type 0 where
+    pub known : Known t.nodes
+    pub few : s.places ≤ 1048576
+    pub room : length t.nodes ≤ s.places
+    pub unended : t.verdict ≡ Running → t.steps < s.places * s.places
+    pub found : (n : ℕ) → t.verdict ≡ Solved n → (place : ℕ) (node : Node P) → Taken t.nodes place node → Found t.nodes n place
