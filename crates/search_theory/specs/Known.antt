@@ -8,9 +8,9 @@ use Rattle.search_theory.specs.Steps.{State}
 use Rattle.search_theory.specs.Calls.{Search}
 
 -- the moves that the links of the nodes lead along, from the start to a place
-pub data Leads {P : Type 0} (nodes : List (Node P)) (place : ℕ) (moves : List ℕ) : Type 0 where
-  start : moves ≡ [] → Leads nodes place moves
-  link : (node : Node P) (before : List ℕ) → slice_get nodes place ≡ Some node → Leads nodes node.parent before → moves ≡ before ++ (node.move ∷ []) → Leads nodes place moves
+pub data Leads {P : Type 0} (nodes : List (Node P)) : ℕ → List ℕ → Type 0 where
+  start : {place : ℕ} {moves : List ℕ} → moves ≡ [] → Leads nodes place moves
+  link : {place : ℕ} {moves : List ℕ} (node : Node P) (before : List ℕ) → slice_get nodes place ≡ Some node → Leads nodes node.parent before → moves ≡ before ++ (node.move ∷ []) → Leads nodes place moves
 
 module _ {P : Type 0} (m : Meaning P) where
   -- each node holds a position that is reached, with its key and its bound, and fewer moves than there are nodes

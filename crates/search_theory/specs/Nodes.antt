@@ -1,5 +1,5 @@
 -- The positions that a search has stored, and which of them is taken next. Assumes nothing.
-use Rattle.std.specs.Prelude.{◌≡◌, ℕ, ◌+◌, ◌≤◌, Bool, true, false, List, slice_get, Some, None}
+use Rattle.std.specs.Prelude.{◌≡◌, ℕ, ◌+◌, ◌≤◌, Bool, true, false, List, slice_get, Some}
 
 -- a stored position
 pub record Node (P : Type 0) : Type 0 where

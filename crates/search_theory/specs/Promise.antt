@@ -1,11 +1,9 @@
 -- The promise of a search, for every list of calls. Assumes nothing.
-use Rattle.std.specs.Prelude.{◌≡◌, ℕ, suc, ◌+◌, ◌*◌, ◌<◌, ◌≤◌, List, [], ◌∷◌, ◌++◌, length, drop, map, slice_get, Some, None, Option, Ok, Err, Result}
+use Rattle.std.specs.Prelude.{◌≡◌, ℕ, ◌+◌, ◌*◌, ◌<◌, ◌≤◌, List, [], ◌∷◌, length, map, slice_get, Some, Ok, Err, Result}
 use Rattle.refusals.specs.declared.Fault.{Fault}
 use Rattle.puzzle.specs.Game.{Reached}
 use Rattle.puzzle.specs.Meaning.{Meaning, Finishes}
-use Rattle.search_theory.specs.declared.Verdict.{Verdict}
 use Rattle.search_theory.specs.declared.Verdict.TheVariants.{Running, Solved, Unsolvable, TableFull}
-use Rattle.search_theory.specs.declared.Advance.{Advance}
 use Rattle.search_theory.specs.Nodes.{Node}
 use Rattle.search_theory.specs.Steps.{State}
 use Rattle.search_theory.specs.Calls.{Search, new_search, Call, opening, advance, asking, recital, Recites, RecitesWay, Run}
