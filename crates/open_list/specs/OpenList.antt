@@ -13,8 +13,8 @@ abbrev pub fits : ℕ → List ℕ → Bool
 fits capacity numbers = nat_le capacity 1048576 && (length numbers == 4 * capacity)
 
 -- the same numbers, in length, for as many places, with these entries
-pub record Has (old new : Open) (entries : List Entry) : Type 0 where
-  pub entries : new.entries ≡ entries
+pub record Has (old new : Open) (es : List Entry) : Type 0 where
+  pub entries : new.entries ≡ es
   pub capacity : new.capacity ≡ old.capacity
   pub numbers : length new.numbers ≡ length old.numbers
 

@@ -1,0 +1,3 @@
+pub mod Nodes
+pub mod Relaxing
+pub mod Finding

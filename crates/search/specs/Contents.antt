@@ -1,0 +1,69 @@
+-- What a search holds, and the nodes that this shows. Assumes nothing.
+use Rattle.std.specs.Prelude.{◌≡◌, ℕ, ◌+◌, ◌*◌, ◌/◌, ◌%◌, ◌≤◌, Bool, true, cond, List, [], ◌∷◌, length, Some, None, Option}
+use Rattle.open_list.specs.Entries.{Entry}
+use Rattle.open_list.specs.OpenList.{Open}
+use Rattle.hash_index.specs.Index.{Index}
+use Rattle.search_theory.specs.declared.Verdict.{Verdict}
+use Rattle.search_theory.specs.Nodes.{Node}
+use Rattle.search_theory.specs.Steps.{state}
+use Rattle.search_theory.specs.Calls.{Search}
+
+-- the lent table and the three parts of the lent list: open list, index and links; whether it is opened, its verdict and steps
+pub record Contents (P : Type 0) : Type 0 where
+  pub table : List P
+  pub open_list : Open
+  pub index : Index
+  pub links : List ℕ
+  pub opened : Bool
+  pub verdict : Verdict
+  pub steps : ℕ
+
+-- a link is the parent's place and the move, which is below 256
+abbrev pub link_of : ℕ → ℕ → ℕ
+link_of parent move = 256 * parent + move
+
+abbrev pub node_of : {P : Type 0} → P → Entry → ℕ → ℕ → Node P
+node_of p e key link = record { position = p; depth = e.depth; parent = link / 256; move = link % 256; floor = e.floor; key = key; is_open = e.is_open }
+
+-- the nodes, from their positions, entries, keys and links
+abbrev pub nodes_from : {P : Type 0} → List P → List Entry → List ℕ → List ℕ → List (Node P)
+nodes_from ps [] ks ls = []
+nodes_from [] (e ∷ es) ks ls = []
+nodes_from (p ∷ ps) (e ∷ es) [] ls = []
+nodes_from (p ∷ ps) (e ∷ es) (k ∷ ks) [] = []
+nodes_from (p ∷ ps) (e ∷ es) (k ∷ ks) (l ∷ ls) = node_of p e k l ∷ nodes_from ps es ks ls
+
+module _ {P : Type 0} where
+  unfoldable pub nodes_of : Contents P → List (Node P)
+  nodes_of c = nodes_from c.table c.open_list.entries c.index.keys c.links
+
+  abbrev pub numbers_of : Contents P → ℕ
+  numbers_of c = length c.open_list.numbers + length c.index.numbers + length c.links
+
+  -- the search as its calls see it
+  abbrev pub search_of : Contents P → Search P
+  search_of c = record {
+    places = length c.table;
+    numbers = numbers_of c;
+    state = cond c.opened (Some (state (nodes_of c) c.verdict c.steps)) None;
+  }
+
+  -- How the parts fit together: this is known of every search, whatever puzzles it was handed.
+  pub record Sound (c : Contents P) : Type 0 where
+    pub keyed : length c.index.keys ≡ length c.open_list.entries
+    pub used : length c.open_list.entries ≤ c.open_list.capacity
+    pub even : c.index.capacity ≡ c.open_list.capacity
+    pub deep : c.open_list.capacity ≤ length c.table
+    pub linked : c.open_list.capacity ≤ length c.links
+    pub few : c.open_list.capacity ≤ 1048576
+    pub whole : numbers_of c ≡ 8 * length c.table → (length c.open_list.numbers ≡ 4 * length c.table) × (length c.index.numbers ≡ 3 * length c.table) × (length c.links ≡ length c.table)
+    pub ready : c.opened ≡ true → c.open_list.capacity ≡ length c.table
+
+  -- nothing but the nodes and what they are kept in changed
+  pub record Framed (old new : Contents P) : Type 0 where
+    pub table : length new.table ≡ length old.table
+    pub numbers : numbers_of new ≡ numbers_of old
+    pub capacity : new.open_list.capacity ≡ old.open_list.capacity
+    pub opened : new.opened ≡ old.opened
+    pub verdict : new.verdict ≡ old.verdict
+    pub steps : new.steps ≡ old.steps

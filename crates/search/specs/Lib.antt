@@ -1,0 +1,3 @@
+pub mod Contents
+pub mod Holder
+pub mod Parts

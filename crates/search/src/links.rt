@@ -1,0 +1,40 @@
+ghost use Rattle.std.specs.Prelude.{◌≡◌, ◌<◌, ◌*◌, ◌+◌, ◌/◌, ◌%◌, length, slice_index, slice_set};
+ghost use Rattle.search.specs.Contents.{link_of};
+
+/// How many move numbers a link has room for.
+const MOVES: u32 = 256;
+
+/// The links of the nodes, in lent numbers: from which place a node was last reached, and by which move.
+#[derive(Drop)]
+pub(crate) struct Links<'a> {
+    pub(crate) numbers: &'a mut [u32],
+}
+
+fn put_in(numbers: &mut [u32], place: usize, link: u32)
+    requires { place < length numbers.old }
+    ensures { numbers.new ≡ slice_set numbers.old place link }
+{
+    numbers[place] = link;
+}
+
+impl<'a> Links<'a> {
+    /// Writes the link of a place.
+    pub(crate) fn put(&mut self, place: usize, parent: u32, number: u32)
+        requires inside { place < length self.old.numbers.now }
+        requires few { parent < 1048576 }
+        requires small { number < 256 }
+        ensures { self.new.numbers.now ≡ slice_set self.old.numbers.now place (link_of parent number) }
+    {
+        put_in(self.numbers, place, MOVES * parent + number);
+    }
+
+    /// The place that a node was last reached from, and by which move.
+    pub(crate) fn get(&self, place: usize) -> (usize, u32)
+        requires { place < length self.now.numbers.now }
+        ensures parent { result.0 ≡ slice_index self.now.numbers.now place / 256 }
+        ensures number { result.1 ≡ slice_index self.now.numbers.now place % 256 }
+    {
+        let link = self.numbers[place];
+        ((link / MOVES) as usize, link % MOVES)
+    }
+}
