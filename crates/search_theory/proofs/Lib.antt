@@ -1,2 +1,3 @@
 pub mod Places
 pub mod Known
+pub mod Sound
