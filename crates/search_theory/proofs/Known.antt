@@ -137,7 +137,7 @@ module _ {P : Type 0} (m : Meaning P) where
       by_bound (Some floor) is = alive floor is
       by_bound None is = dead is
 
-  known_none : Known m []
+  pub known_none : Known m []
   known_none = known_all [] (λ i node there. absurd (none-some node there))
 
   known_start : (capacity floor : ℕ) → m.lower_bound m.game.start ≡ Some floor → Known m (new_node m capacity m.game.start 0 0 0 floor ∷ [])

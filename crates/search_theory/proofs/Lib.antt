@@ -4,3 +4,4 @@ pub mod Sound
 pub mod Trails
 pub mod Weights
 pub mod Moves
+pub mod Stepping

@@ -9,16 +9,13 @@ use Rattle.search_theory.specs.Steps.{new_node, MovePlayed, closed_move, dead_en
 use Rattle.search_theory.specs.Known.{Known}
 use Rattle.search_theory.proofs.Places.{Put}
 use Rattle.search_theory.proofs.Known.{known_move, known_closed, move_leaves}
-use Rattle.search_theory.proofs.Sound.{Improves, improves_set, improves_push, Stored, stored_kept, Covered, Linked, child, Sound, Everywhere, improved}
+use Rattle.search_theory.proofs.Sound.{Improves, improves_set, improves_push, Stored, stored_kept, Covered, Linked, child, Sound, Elsewhere, improved}
 use Rattle.search_theory.proofs.Weights.{weight, weigh, weigh_push, weigh_set}
 
 module _ {P : Type 0} (m : Meaning P) (capacity place : ℕ) (taken : Node P) (steps : ℕ) where
-  -- the taken node alone need not be settled yet: the first few of its moves are played
-  abbrev pub Elsewhere : ℕ → Type 0
-  Elsewhere i = i ≡ place → ⊥
-
+  -- the first few moves of the taken node are played
   pub record Halfway (number : ℕ) (nodes : List (Node P)) : Type 0 where
-    pub sound : Sound m Elsewhere nodes
+    pub sound : Sound m (Elsewhere place) nodes
     pub at : slice_get nodes place ≡ Some (closed taken)
     pub covered : Covered m nodes taken.position (taken.depth + 1) number
     pub budget : steps + 1 + weigh nodes ≤ capacity * length nodes
@@ -54,7 +51,7 @@ module _ {P : Type 0} (m : Meaning P) (capacity place : ℕ) (taken : Node P) (s
         → y.position ≡ q → y.depth ≡ taken.depth + 1 → y.parent ≡ place → y.move ≡ number → y.is_open ≡ true
         → steps + 1 + weigh new ≤ capacity * length new → length new ≤ capacity → length new ≤ 1 + length old → Halfway (suc number) new
     changed new q i y leads move better only is deep parent by is_open budget room one = record {
-      sound = improved m Elsewhere Elsewhere old new i y better half.sound (λ j b at same. only j b at (same ∙ is)) known link (λ shut. absurd (true≢false (sym is_open ∙ shut))) (λ j other settles. settles);
+      sound = improved m (Elsewhere place) (Elsewhere place) old new i y better half.sound (λ j b at same. only j b at (same ∙ is)) known link (λ shut. absurd (true≢false (sym is_open ∙ shut))) (λ j other settles. settles);
       at = move_leaves m capacity place taken number old new (closed taken) half.at (omega arith) move;
       covered = covered_more new number
           (λ k r floor less to alive. stored_kept better r (taken.depth + 1) (half.covered k r floor less to alive))

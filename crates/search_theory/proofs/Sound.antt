@@ -49,6 +49,13 @@ stored_kept {P} {old} {new} {i} {y} better p most s = by_place (cases_eq s.place
         record { place = i; node = y; at = better.put.here; same = sym o.0 ∙ s.same; near = omega arith }
     by_place (inr other) = record { place = s.place; node = s.node; at = better.put.kept s.place s.node s.at other; same = s.same; near = s.near }
 
+-- between steps all closed nodes are settled; while a node's moves are played, all but that one
+abbrev pub Everywhere : ℕ → Type 0
+Everywhere i = Unit {0}
+
+abbrev pub Elsewhere : ℕ → ℕ → Type 0
+Elsewhere place i = i ≡ place → ⊥
+
 module _ {P : Type 0} (m : Meaning P) where
   -- what the first few moves from a position lead to is stored, if it is not dead
   abbrev pub Covered : List (Node P) → P → ℕ → ℕ → Type 0
@@ -72,9 +79,6 @@ module _ {P : Type 0} (m : Meaning P) where
     pub begins : Stored nodes m.game.start 0
     pub settled : (i : ℕ) (node : Node P) → slice_get nodes i ≡ Some node → node.is_open ≡ false → Settles i → Settled nodes node
     pub linked : (i : ℕ) (node : Node P) → slice_get nodes i ≡ Some node → Linked nodes node
-
-  abbrev pub Everywhere : ℕ → Type 0
-  Everywhere i = Unit {0}
 
   linked_kept : {old new : List (Node P)} {i : ℕ} {y : Node P} → Improves old new i y → (node : Node P) → Linked old node → Linked new node
   linked_kept better node (root is) = root is
