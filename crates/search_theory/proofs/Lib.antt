@@ -5,3 +5,6 @@ pub mod Trails
 pub mod Weights
 pub mod Moves
 pub mod Stepping
+pub mod Advancing
+pub mod Calling
+pub mod Promise
