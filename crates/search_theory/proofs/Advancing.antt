@@ -1,5 +1,5 @@
 -- Steps one after another. Assumes nothing.
-use Rattle.std.proofs.Common.{◌≡◌, ℕ, zero, suc, ◌+◌, refl, sym, ap, ◌∙◌, arith}
+use Rattle.std.proofs.Common.{◌≡◌, ℕ, zero, suc, ◌+◌, refl, ap, arith}
 use Rattle.puzzle.specs.Meaning.{Meaning, Lawful}
 use Rattle.search_theory.specs.declared.Verdict.TheVariants.{Running}
 use Rattle.search_theory.specs.Steps.{State, Step, finishes, expands, overflows, Steps, none, next}
@@ -37,4 +37,4 @@ module _ {P : Type 0} (m : Meaning P) (capacity : ℕ) where
 
   pub steps_honest : Lawful m → (first : State P) (n : ℕ) (last : State P) → Steps m capacity first n last → Honest m capacity first → Honest m capacity last
   steps_honest lawful first zero last none honest = honest
-  steps_honest lawful first (suc n) last (next {mid = mid} before one) honest = step_honest m capacity lawful mid (steps_honest lawful first n mid before honest) last one
+  steps_honest lawful first (suc n) last (next {mid = mid} before one) honest = step_honest m capacity lawful mid last (steps_honest lawful first n mid before honest) one

@@ -4,6 +4,8 @@ pub mod Sound
 pub mod Trails
 pub mod Weights
 pub mod Moves
+pub mod Crowds
+pub mod Finishing
 pub mod Stepping
 pub mod Advancing
 pub mod Calling

@@ -1,16 +1,15 @@
 -- What holds while the moves of a taken node are played. Assumes nothing.
-use Rattle.std.proofs.Common.{◌≡◌, ℕ, zero, suc, ◌+◌, ◌*◌, ◌<◌, ◌≤◌, ◌⊎◌, inl, inr, Bool, true, false, cond, List, [], ◌∷◌, ◌++◌, length, slice_get, slice_set, Some, None, Option, refl, sym, ap, subst, ◌∙◌, length-set, length-append, arith}
+use Rattle.std.proofs.Common.{◌≡◌, ℕ, zero, suc, ◌+◌, ◌*◌, ◌<◌, ◌≤◌, ◌⊎◌, inl, inr, true, false, List, [], ◌∷◌, ◌++◌, length, slice_get, slice_set, Some, refl, sym, ap, subst, ◌∙◌, length-set, length-append, arith}
 use Rattle.std.proofs.lemmas.Option.{same_Some, none-some}
 use Rattle.std.proofs.lemmas.Bool.{true≢false, cases_eq}
-use Rattle.puzzle.specs.Game.{Reached}
 use Rattle.puzzle.specs.Meaning.{Meaning}
-use Rattle.search_theory.specs.Nodes.{Node, closed, reached_again, IsNew}
+use Rattle.search_theory.specs.Nodes.{Node, closed, reached_again, Taken}
 use Rattle.search_theory.specs.Steps.{new_node, MovePlayed, closed_move, dead_end, no_nearer, nearer, stored, MovesPlayed, none, next}
 use Rattle.search_theory.specs.Known.{Known}
-use Rattle.search_theory.proofs.Places.{Put}
+use Rattle.search_theory.proofs.Places.{put_set}
 use Rattle.search_theory.proofs.Known.{known_move, known_closed, move_leaves}
-use Rattle.search_theory.proofs.Sound.{Improves, improves_set, improves_push, Stored, stored_kept, Covered, Linked, child, Sound, Elsewhere, improved}
-use Rattle.search_theory.proofs.Weights.{weight, weigh, weigh_push, weigh_set}
+use Rattle.search_theory.proofs.Sound.{Improves, improves_set, improves_push, Stored, stored_kept, Covered, Linked, root, child, Settled, Sound, Everywhere, Elsewhere, improved}
+use Rattle.search_theory.proofs.Weights.{weigh, weigh_push, weigh_set, open_weight}
 
 module _ {P : Type 0} (m : Meaning P) (capacity place : ℕ) (taken : Node P) (steps : ℕ) where
   -- the first few moves of the taken node are played
@@ -94,3 +93,40 @@ module _ {P : Type 0} (m : Meaning P) (capacity place : ℕ) (taken : Node P) (s
   pub halfway : (number : ℕ) (old new : List (Node P)) → Halfway 0 old → number ≤ m.game.count → MovesPlayed m capacity place taken old number new → Halfway number new
   halfway zero old new half below none = half
   halfway (suc number) old new half below (next {nodes = mid} before move) = halfway_move number mid (halfway number old mid half (omega arith) before) (omega arith) new move
+
+  -- when all its moves are played the taken node is settled too
+  pub settle : m.game.finished taken.position ≡ false → (nodes : List (Node P)) → Halfway m.game.count nodes → Sound m Everywhere nodes
+  settle unfinished nodes half = record {
+    known = half.sound.known;
+    apart = half.sound.apart;
+    begins = half.sound.begins;
+    settled = λ i node at shut settles. settled_at i node at shut (cases_eq i place);
+    linked = half.sound.linked;
+  }
+    where
+      settled_at : (i : ℕ) (node : Node P) → slice_get nodes i ≡ Some node → node.is_open ≡ false → (i ≡ place) ⊎ (i ≡ place → ⊥) → Settled m nodes node
+      settled_at i node at shut (inl same) =
+          let mine : closed taken ≡ node = same_Some (closed taken) node (sym half.at ∙ (ap (slice_get nodes) (sym same) ∙ at)) in
+          subst (λ n. Settled m nodes n) mine (record { unfinished = unfinished; covered = half.covered })
+      settled_at i node at shut (inr other) = half.sound.settled i node at shut other
+
+  -- a taken node is closed before its moves are played
+  module _ (nodes : List (Node P)) (there : Taken nodes place taken) where
+    closed_linked : Linked m nodes taken → Linked m nodes (closed taken)
+    closed_linked (root is) = root is
+    closed_linked (child parent at below leads fewer) = child parent at below leads fewer
+
+    pub halfway_begun : Sound m Everywhere nodes → steps + weigh nodes ≤ capacity * length nodes → length nodes ≤ capacity → length nodes ≤ 1 + m.game.count * steps
+        → Halfway 0 (slice_set nodes place (closed taken))
+    halfway_begun sound budget room few = record {
+      sound = improved m Everywhere (Elsewhere place) nodes (slice_set nodes place (closed taken)) place (closed taken)
+          (improves_set nodes place taken (closed taken) there.there refl (omega arith)) sound
+          (λ j b at same. sound.apart j place b taken at there.there same)
+          (known_closed m nodes place taken sound.known there.there) (closed_linked (sound.linked place taken there.there))
+          (λ shut settles. settles refl) (λ j other settles. tt);
+      at = (put_set nodes place taken (closed taken) there.there).here;
+      covered = λ number q floor below leads alive. absurd (omega arith);
+      budget = simp length-set (omega (arith, weigh_set nodes place taken (closed taken) there.there, open_weight taken there.is_open));
+      room = omega (arith, length-set nodes place (closed taken));
+      few = omega (arith, length-set nodes place (closed taken));
+    }

@@ -1,8 +1,8 @@
 -- What holds of the nodes between steps, and why an open node lies on every way to the finish. Assumes nothing.
-use Rattle.std.proofs.Common.{◌≡◌, ℕ, zero, suc, ◌+◌, ◌<◌, ◌≤◌, ◌⊎◌, inl, inr, Bool, true, false, List, [], ◌∷◌, ◌++◌, length, slice_get, slice_set, Some, None, Option, refl, sym, ap, subst, ◌∙◌, arith}
-use Rattle.std.proofs.lemmas.Option.{same_Some, none-some, slice_get_within}
+use Rattle.std.proofs.Common.{◌≡◌, ℕ, ◌+◌, ◌<◌, ◌≤◌, ◌⊎◌, inl, inr, Bool, true, false, List, [], ◌∷◌, ◌++◌, length, slice_get, slice_set, Some, None, Option, refl, sym, ap, subst, ◌∙◌, arith}
+use Rattle.std.proofs.lemmas.Option.{same_Some, slice_get_within}
 use Rattle.std.proofs.lemmas.Bool.{true≢false, cases_eq}
-use Rattle.puzzle.specs.Game.{Game, Plays, Reached, here, then}
+use Rattle.puzzle.specs.Game.{Plays, Reached, here, then}
 use Rattle.puzzle.specs.Meaning.{Meaning, Finishes, Lawful}
 use Rattle.search_theory.specs.Nodes.{Node, sum}
 use Rattle.search_theory.specs.Known.{Known}

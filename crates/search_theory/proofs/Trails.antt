@@ -1,5 +1,5 @@
 -- The links of a node lead along moves that reach it, no more than its depth says. Assumes nothing.
-use Rattle.std.proofs.Common.{◌≡◌, ℕ, zero, suc, ◌+◌, ◌<◌, ◌≤◌, List, [], ◌∷◌, ◌++◌, length, slice_get, Some, refl, sym, subst, length-append, arith}
+use Rattle.std.proofs.Common.{◌≡◌, ℕ, zero, suc, ◌<◌, ◌≤◌, List, [], ◌∷◌, ◌++◌, length, slice_get, Some, refl, sym, subst, length-append, arith}
 use Rattle.puzzle.specs.Game.{Plays, here}
 use Rattle.puzzle.specs.Meaning.{Meaning}
 use Rattle.search_theory.specs.Nodes.{Node}

@@ -1,5 +1,5 @@
 -- How many steps a list of nodes still allows. Assumes nothing.
-use Rattle.std.proofs.Common.{◌≡◌, ℕ, zero, suc, ◌+◌, ◌<◌, ◌≤◌, Bool, true, cond, List, [], ◌∷◌, ◌++◌, length, slice_get, slice_set, Some, ap, arith}
+use Rattle.std.proofs.Common.{◌≡◌, ℕ, zero, suc, ◌+◌, ◌≤◌, true, cond, List, [], ◌∷◌, ◌++◌, slice_get, slice_set, Some, ap, arith}
 use Rattle.std.proofs.lemmas.Option.{same_Some, none-some}
 use Rattle.search_theory.specs.Nodes.{Node}
 
@@ -26,9 +26,9 @@ module _ {P : Type 0} where
   weigh_at (n ∷ ns) zero x e = let same : weight n ≡ weight x = ap weight (same_Some n x e) in omega arith
   weigh_at (n ∷ ns) (suc i) x e = let more = weigh_at ns i x e in omega arith
 
+  pub open_weight : (x : Node P) → x.is_open ≡ true → weight x ≡ x.depth + 1
+  open_weight x is_open = ap (λ b. x.depth + cond b 1 0) is_open
+
   -- an open node weighs something
   pub open_weighs : (ns : List (Node P)) (i : ℕ) (x : Node P) → slice_get ns i ≡ Some x → x.is_open ≡ true → 1 ≤ weigh ns
-  open_weighs ns i x at is_open =
-      let all = weigh_at ns i x at in
-      let mine : weight x ≡ x.depth + 1 = ap (λ b. x.depth + cond b 1 0) is_open in
-      omega arith
+  open_weighs ns i x at is_open = let all = weigh_at ns i x at in let mine = open_weight x is_open in omega arith
