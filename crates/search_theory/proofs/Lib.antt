@@ -1,0 +1,12 @@
+pub mod Places
+pub mod Known
+pub mod Sound
+pub mod Trails
+pub mod Weights
+pub mod Moves
+pub mod Crowds
+pub mod Finishing
+pub mod Stepping
+pub mod Advancing
+pub mod Calling
+pub mod Promise

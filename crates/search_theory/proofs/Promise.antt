@@ -1,0 +1,57 @@
+-- The promise of a search is kept for every list of calls. Assumes nothing.
+use Rattle.std.proofs.Common.{◌≡◌, ℕ, ◌*◌, ◌<◌, ◌≤◌, length, Some, arith, mul-le-mul_left}
+use Rattle.puzzle.specs.Meaning.{Meaning, Lawful}
+use Rattle.search_theory.specs.declared.Verdict.TheVariants.{Running, Solved, Unsolvable, TableFull}
+use Rattle.search_theory.specs.Steps.{State, Steps, none}
+use Rattle.search_theory.specs.Calls.{Search, Served}
+use Rattle.search_theory.specs.Known.{Held}
+use Rattle.search_theory.specs.Promise.{Promise}
+use Rattle.search_theory.proofs.Weights.{open_weighs}
+use Rattle.search_theory.proofs.Crowds.{distinct_positions}
+use Rattle.search_theory.proofs.Stepping.{Honest, says_that}
+use Rattle.search_theory.proofs.Advancing.{steps_honest}
+use Rattle.search_theory.proofs.Calling.{opened_run, final_run, recited}
+
+module _ {P : Type 0} (m : Meaning P) where
+  -- a search that runs has steps left
+  steps_left : (capacity : ℕ) (t : State P) → Honest m capacity t → t.verdict ≡ Running → t.steps < capacity * capacity
+  steps_left capacity t honest runs =
+      let p = says_that m capacity t honest Running runs in
+      let budget = p.budget in
+      let some = open_weighs t.nodes p.place p.node p.at p.is_open in
+      let most : capacity * length t.nodes ≤ capacity * capacity = mul-le-mul_left capacity honest.room in
+      omega arith
+
+  pub promise : Lawful m → Promise m
+  promise lawful places numbers calls s run t is =
+      let o = opened_run m lawful places numbers calls s run t is in
+      let honest = o.honest in
+      record {
+        shortest = λ n solved. (says_that m s.places t honest (Solved n) solved).least;
+        recited = recited m s t is;
+        unsolvable = says_that m s.places t honest Unsolvable;
+        full = says_that m s.places t honest TableFull;
+        counted = o.counted;
+        spent = o.spent;
+        distinct = distinct_positions t.nodes honest.apart;
+        room = honest.room;
+        few = honest.few;
+        ends = steps_left s.places t honest;
+        final = final_run m s t is;
+      }
+
+  -- what is known of an opened search, and after steps that it takes within one call
+  pub held_steps : Lawful m → (s : Search P) → Served m s → (first : State P) → s.state ≡ Some first → (n : ℕ) (t : State P) → Steps m s.places first n t → Held m s t
+  held_steps lawful s served first is n t steps =
+      let o = opened_run m lawful served.places served.numbers served.calls s served.run first is in
+      let honest = steps_honest m s.places lawful first n t steps o.honest in
+      record {
+        known = honest.known;
+        few = o.few;
+        room = honest.room;
+        unended = steps_left s.places t honest;
+        found = λ n solved. (says_that m s.places t honest (Solved n) solved).found;
+      }
+
+  pub held : Lawful m → (s : Search P) → Served m s → (t : State P) → s.state ≡ Some t → Held m s t
+  held lawful s served t is = held_steps lawful s served t is 0 t none
