@@ -1,5 +1,6 @@
 -- The promise of a search is kept for every list of calls. Assumes nothing.
-use Rattle.std.proofs.Common.{◌≡◌, ℕ, ◌*◌, ◌<◌, ◌≤◌, length, Some, arith, mul-le-mul_left}
+use Rattle.std.proofs.Common.{◌≡◌, ℕ, ◌*◌, ◌<◌, ◌≤◌, length, Some, sym, ◌∙◌, arith, mul-le-mul_left}
+use Rattle.std.proofs.lemmas.Bool.{true≢false}
 use Rattle.puzzle.specs.Meaning.{Meaning, Lawful}
 use Rattle.search_theory.specs.declared.Verdict.TheVariants.{Running, Solved, Unsolvable, TableFull}
 use Rattle.search_theory.specs.Steps.{State, Steps, none}
@@ -50,6 +51,7 @@ module _ {P : Type 0} (m : Meaning P) where
         few = o.few;
         room = honest.room;
         unended = steps_left s.places t honest;
+        busy = λ runs shut. (let p = says_that m s.places t honest Running runs in true≢false (sym p.is_open ∙ shut p.place p.node p.at));
         found = λ n solved. (says_that m s.places t honest (Solved n) solved).found;
       }
 

@@ -3,11 +3,11 @@ use Rattle.std.specs.Prelude.{◌≡◌, ℕ, ◌<◌, ◌≤◌, ◌*◌, List,
 use Rattle.puzzle.specs.Game.{Reached}
 use Rattle.puzzle.specs.Meaning.{Meaning, Finishes}
 use Rattle.search_theory.specs.declared.Verdict.TheVariants.{Running, Solved}
-use Rattle.search_theory.specs.Nodes.{Node, Taken}
+use Rattle.search_theory.specs.Nodes.{Node, Taken, NoneOpen}
 use Rattle.search_theory.specs.Steps.{State}
 use Rattle.search_theory.specs.Calls.{Search}
 
--- the moves that the links of the nodes lead along, from the start to a place
+-- moves that the links of the nodes lead along to a place
 pub data Leads {P : Type 0} (nodes : List (Node P)) : ℕ → List ℕ → Type 0 where
   start : {place : ℕ} {moves : List ℕ} → moves ≡ [] → Leads nodes place moves
   link : {place : ℕ} {moves : List ℕ} (node : Node P) (before : List ℕ) → slice_get nodes place ≡ Some node → Leads nodes node.parent before → moves ≡ before ++ (node.move ∷ []) → Leads nodes place moves
@@ -33,4 +33,5 @@ module _ {P : Type 0} (m : Meaning P) where
     pub few : s.places ≤ 1048576
     pub room : length t.nodes ≤ s.places
     pub unended : t.verdict ≡ Running → t.steps < s.places * s.places
+    pub busy : t.verdict ≡ Running → NoneOpen t.nodes → ⊥
     pub found : (n : ℕ) → t.verdict ≡ Solved n → (place : ℕ) (node : Node P) → Taken t.nodes place node → Found t.nodes n place
