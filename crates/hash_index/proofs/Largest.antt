@@ -1,0 +1,22 @@
+-- The largest number of which something holds: under what it stays. Assumes nothing.
+use Rattle.std.proofs.Common.{◌≡◌, ℕ, ◌+◌, ◌<◌, Some, None, Option, subst, ◌⊎◌, inl, inr, arith}
+use Rattle.std.proofs.lemmas.Bool.{cases_eq}
+use Rattle.hash_index.specs.Chains.{IsLargest}
+
+-- the largest for two that agree below n
+pub largest_alike : (Q R : ℕ → Type 0) (n : ℕ) (o : Option ℕ) → ((j : ℕ) → j < n → Q j → R j) → ((j : ℕ) → j < n → R j → Q j) → IsLargest Q n o → IsLargest R n o
+largest_alike Q R n (Some place) to from l = (l.0, to place l.0 l.1, λ j after below r. l.2 j after below (from j below r))
+largest_alike Q R n None to from l = λ j below r. l j below (from j below r)
+
+-- the largest stays where it does not hold of one number more
+pub largest_more : (Q : ℕ → Type 0) (n : ℕ) (o : Option ℕ) → (Q n → ⊥) → IsLargest Q n o → IsLargest Q (n + 1) o
+largest_more Q n (Some place) not l = (omega (arith, l.0), l.1, λ j after below q. by j after below q (cases_eq j n))
+  where
+    by : (j : ℕ) → place < j → j < n + 1 → Q j → (j ≡ n) ⊎ (j ≡ n → ⊥) → ⊥
+    by j after below q (inl same) = not (subst Q same q)
+    by j after below q (inr other) = l.2 j after (omega (arith, other)) q
+largest_more Q n None not l = λ j below q. by j below q (cases_eq j n)
+  where
+    by : (j : ℕ) → j < n + 1 → Q j → (j ≡ n) ⊎ (j ≡ n → ⊥) → ⊥
+    by j below q (inl same) = not (subst Q same q)
+    by j below q (inr other) = l j (omega (arith, other)) q
