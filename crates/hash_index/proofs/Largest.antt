@@ -1,5 +1,6 @@
--- The largest number of which something holds: under what it stays. Assumes nothing.
-use Rattle.std.proofs.Common.{◌≡◌, ℕ, ◌+◌, ◌<◌, Some, None, Option, subst, ◌⊎◌, inl, inr, arith}
+-- The largest number of which something holds: where it is, and under what it stays. Assumes nothing.
+use Rattle.std.proofs.Common.{◌≡◌, ℕ, ◌+◌, ◌<◌, ◌≤◌, Some, None, Option, subst, ◌⊎◌, inl, inr, arith}
+use Rattle.std.specs.Prelude.{MatchOption, ⊤}
 use Rattle.std.proofs.lemmas.Bool.{cases_eq}
 use Rattle.hash_index.specs.Chains.{IsLargest}
 
@@ -20,3 +21,12 @@ largest_more Q n None not l = λ j below q. by j below q (cases_eq j n)
     by : (j : ℕ) → j < n + 1 → Q j → (j ≡ n) ⊎ (j ≡ n → ⊥) → ⊥
     by j below q (inl same) = not (subst Q same q)
     by j below q (inr other) = l j (omega (arith, other)) q
+
+-- the largest number below n is below n
+pub largest_below : (Q : ℕ → Type 0) (n : ℕ) (o : Option ℕ) → IsLargest Q n o → MatchOption o ⊤ (λ place. place < n)
+largest_below Q n (Some place) largest = largest.0
+largest_below Q n None largest = tt
+
+pub below_more : (o : Option ℕ) (n m : ℕ) → n ≤ m → MatchOption o ⊤ (λ place. place < n) → MatchOption o ⊤ (λ place. place < m)
+below_more (Some place) n m le below = omega arith
+below_more None n m le below = tt

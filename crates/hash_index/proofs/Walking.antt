@@ -50,11 +50,6 @@ module _ (numbers : List ℕ) (capacity key n : ℕ) where
     ends a j below there =
         let same = key_is numbers used j key there in a.largest j (a.ahead j below same) (in_bucket j same)
 
--- the largest number below n is below n
-pub largest_below : (Q : ℕ → Type 0) (n : ℕ) (o : Option ℕ) → IsLargest Q n o → MatchOption o ⊤ (λ place. place < n)
-largest_below Q n (Some place) largest = largest.0
-largest_below Q n None largest = tt
-
 -- how many places a walk may still see
 abbrev pub left : Option ℕ → ℕ
 left (Some place) = place + 1
@@ -63,7 +58,3 @@ left None = 0
 pub left_fewer : (o : Option ℕ) (place : ℕ) → MatchOption o ⊤ (λ earlier. earlier < place) → left o < place + 1
 left_fewer (Some earlier) place below = omega arith
 left_fewer None place below = omega arith
-
-pub below_more : (o : Option ℕ) (n m : ℕ) → n ≤ m → MatchOption o ⊤ (λ place. place < n) → MatchOption o ⊤ (λ place. place < m)
-below_more (Some place) n m le below = omega arith
-below_more None n m le below = tt

@@ -3,7 +3,8 @@ use Rattle.std.specs.Prelude.{⊤}
 use Rattle.std.proofs.lemmas.Option.{MatchOption-at_some}
 use Rattle.hash_index.specs.Chains.{link_of}
 use Rattle.hash_index.proofs.Shown.{length_shown}
-use Rattle.hash_index.proofs.Walking.{Ahead, begins, goes_on, finds, ends, left, left_fewer, largest_below, below_more}
+use Rattle.hash_index.proofs.Largest.{largest_below, below_more}
+use Rattle.hash_index.proofs.Walking.{Ahead, begins, goes_on, finds, ends, left, left_fewer}
 use Rattle.hash_index.proofs.index.HashIndex.along.Goals as goal
 
 pub loop-next-init : goal.loop-next-init

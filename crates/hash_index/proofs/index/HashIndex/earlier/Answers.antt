@@ -2,7 +2,7 @@ use Rattle.std.proofs.Common.{◌≡◌, ℕ, ◌%◌, ◌<◌, ◌≤◌, lengt
 use Rattle.std.proofs.lemmas.Option.{slice_get_past}
 use Rattle.hash_index.proofs.Keys.{length_keys, key_there}
 use Rattle.hash_index.proofs.Shown.{length_shown}
-use Rattle.hash_index.proofs.Walking.{largest_below, below_more}
+use Rattle.hash_index.proofs.Largest.{largest_below, below_more}
 use Rattle.hash_index.proofs.index.HashIndex.earlier.Goals as goal
 
 pub returns-then-place-self : goal.returns-then-place-self
