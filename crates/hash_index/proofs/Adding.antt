@@ -1,18 +1,18 @@
 -- What a place that is added leaves of the chains. Assumes nothing.
-use Rattle.std.proofs.Common.{◌≡◌, ◌≢◌, ℕ, ◌+◌, ◌*◌, ◌%◌, ◌<◌, ◌≤◌, Bool, true, false, cond, List, [], ◌∷◌, ◌++◌, length, get_or, set, Some, None, Option, subst, sym, refl, ap, ◌∙◌, ◌⊎◌, inl, inr, add-one, arith}
+use Rattle.std.proofs.Common.{◌≡◌, ◌≢◌, ℕ, ◌+◌, ◌*◌, ◌%◌, ◌<◌, ◌≤◌, Bool, cond, List, [], ◌∷◌, ◌++◌, length, get_or, set, Some, None, Option, sym, refl, ap, ◌∙◌, ◌⊎◌, inl, inr, add-one, arith}
 use Rattle.std.proofs.lemmas.Bool.{cases_eq, ne_eqb}
 use Rattle.std.proofs.lemmas.List.{length-set, get_or-set_same, get_or-set_other}
-use Rattle.hash_index.specs.Chains.{place_of, key_of, link_of, head_of, keys_of, added, IsLargest, IsInBucket, HeadsAreLast, LinksAreEarlier}
+use Rattle.hash_index.specs.Chains.{most_places, no_place, place_of, key_of, link_of, head_of, keys_of, added, IsLargest, IsInBucket, HeadsAreLast, LinksAreEarlier}
 use Rattle.hash_index.proofs.Largest.{largest_alike, largest_more}
 use Rattle.hash_index.proofs.Keys.{keys_alike}
 
 -- a place that an index may have is not the mark
-place_of_itself : (place : ℕ) → place < 1048576 → place_of place ≡ Some place
-place_of_itself place few = ap (λ (b : Bool). cond b None (Some place)) (ne_eqb place 4294967295 (λ same. omega arith))
+place_of_itself : (place : ℕ) → place < most_places → place_of place ≡ Some place
+place_of_itself place few = ap (λ (b : Bool). cond b None (Some place)) (ne_eqb place no_place (λ same. omega arith))
 
 -- there is room for the place
 pub record Adds (numbers : List ℕ) (capacity place : ℕ) : Type 0 where
-  pub few : capacity ≤ 1048576
+  pub few : capacity ≤ most_places
   pub room : place < capacity
   pub long : 3 * capacity ≤ length numbers
 

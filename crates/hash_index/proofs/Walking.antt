@@ -1,6 +1,6 @@
 -- A walk along a chain meets the last place with a key. Assumes nothing.
 use Rattle.std.proofs.Common.{◌≡◌, ◌≢◌, ℕ, ◌+◌, ◌%◌, ◌<◌, ◌≤◌, List, Some, None, Option, subst, ap, ◌∙◌, ◌⊎◌, inl, inr, arith}
-use Rattle.std.specs.Prelude.{slice_get, MatchOption, ⊤}
+use Rattle.std.specs.Prelude.{MatchOption, ⊤}
 use Rattle.std.proofs.lemmas.Bool.{cases_order}
 use Rattle.hash_index.specs.Index.{IsLast}
 use Rattle.hash_index.specs.Chains.{key_of, link_of, keys_of, IsLargest, IsInBucket, LinksAreEarlier}

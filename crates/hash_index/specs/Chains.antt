@@ -3,9 +3,17 @@ use Rattle.std.specs.Prelude.{◌≡◌, ℕ, zero, suc, ◌+◌, ◌*◌, ◌%�
 use Rattle.hash_index.specs.Index.{Index}
 use Rattle.hash_index.specs.declared.index.HashIndex.TheInside.{Inside}
 
--- the place that a number names: the largest number of 32 bits says that there is none
+-- the most places that an index has
+abbrev pub most_places : ℕ
+most_places = 1048576
+
+-- the largest number of 32 bits, which stands where there is no place
+abbrev pub no_place : ℕ
+no_place = 4294967295
+
+-- the place that a number names
 abbrev pub place_of : ℕ → Option ℕ
-place_of number = cond (number == 4294967295) None (Some number)
+place_of number = cond (number == no_place) None (Some number)
 
 -- the key of a place
 abbrev pub key_of : List ℕ → ℕ → ℕ
@@ -44,8 +52,9 @@ HeadsAreLast numbers capacity n = (bucket : ℕ) → bucket < capacity → IsLar
 abbrev pub LinksAreEarlier : List ℕ → ℕ → ℕ → Type 0
 LinksAreEarlier numbers capacity n = (place : ℕ) → place < n → IsLargest (IsInBucket numbers capacity (key_of numbers place % capacity)) place (link_of numbers place)
 
+-- the fields are those of an index
 pub record IsIndex (h : Inside) : Type 0 where
-  pub few : h.capacity ≤ 1048576
+  pub few : h.capacity ≤ most_places
   pub room : h.used ≤ h.capacity
   pub long : 3 * h.capacity ≤ length h.chains.numbers.now
   pub heads : HeadsAreLast h.chains.numbers.now h.capacity h.used

@@ -1,5 +1,5 @@
 ghost use Rattle.std.specs.Prelude.{◌≡◌, ℕ, ◌+◌, ◌*◌, ◌<◌, ◌≤◌, None, length};
-ghost use Rattle.hash_index.specs.Chains.{place_of, key_of, link_of, head_of, added};
+ghost use Rattle.hash_index.specs.Chains.{most_places, place_of, key_of, link_of, head_of, added};
 
 /// How many numbers a place takes: its key, and the place before it in its bucket.
 const KEY_AND_LINK: usize = 2;
@@ -21,11 +21,15 @@ pub(crate) struct Chains<'a> {
 fn place_in(number: u32) -> Option<usize>
     ensures { result ≡ place_of number }
 {
-    if number == NO_PLACE { None } else { Some(number as usize) }
+    if number == NO_PLACE {
+        None
+    } else {
+        Some(number as usize)
+    }
 }
 
 fn clear_heads(numbers: &mut [u32], capacity: usize)
-    requires few { capacity ≤ 1048576 }
+    requires few { capacity ≤ most_places }
     requires long { 3 * capacity ≤ length numbers.old }
     ensures length { length numbers.new ≡ length numbers.old }
     ensures heads { (bucket : ℕ) → bucket < capacity → head_of numbers.new capacity bucket ≡ None }
@@ -34,7 +38,7 @@ fn clear_heads(numbers: &mut [u32], capacity: usize)
 }
 
 fn add_to(numbers: &mut [u32], capacity: usize, place: usize, key: u32)
-    requires few { capacity ≤ 1048576 }
+    requires few { capacity ≤ most_places }
     requires room { place < capacity }
     requires long { 3 * capacity ≤ length numbers.old }
     ensures { numbers.new ≡ added numbers.old capacity place key }
@@ -49,7 +53,7 @@ fn add_to(numbers: &mut [u32], capacity: usize, place: usize, key: u32)
 impl<'a> Chains<'a> {
     /// Leaves each bucket with no place.
     pub(crate) fn clear(&mut self, capacity: usize)
-        requires few { capacity ≤ 1048576 }
+        requires few { capacity ≤ most_places }
         requires long { 3 * capacity ≤ length self.old.numbers.now }
         ensures length { length self.new.numbers.now ≡ length self.old.numbers.now }
         ensures heads { (bucket : ℕ) → bucket < capacity → head_of self.new.numbers.now capacity bucket ≡ None }
@@ -59,7 +63,7 @@ impl<'a> Chains<'a> {
 
     /// Puts a place in front of the chain of its key's bucket.
     pub(crate) fn add(&mut self, capacity: usize, place: usize, key: u32)
-        requires few { capacity ≤ 1048576 }
+        requires few { capacity ≤ most_places }
         requires room { place < capacity }
         requires long { 3 * capacity ≤ length self.old.numbers.now }
         ensures { self.new.numbers.now ≡ added self.old.numbers.now capacity place key }
@@ -69,7 +73,7 @@ impl<'a> Chains<'a> {
 
     /// The key of a place.
     pub(crate) fn key(&self, place: usize) -> u32
-        requires few { place < 1048576 }
+        requires few { place < most_places }
         requires within { 2 * place < length self.now.numbers.now }
         ensures { result ≡ key_of self.now.numbers.now place }
     {
@@ -78,7 +82,7 @@ impl<'a> Chains<'a> {
 
     /// The place before it in its bucket.
     pub(crate) fn link(&self, place: usize) -> Option<usize>
-        requires few { place < 1048576 }
+        requires few { place < most_places }
         requires within { 2 * place + 1 < length self.now.numbers.now }
         ensures { result ≡ link_of self.now.numbers.now place }
     {
@@ -87,7 +91,7 @@ impl<'a> Chains<'a> {
 
     /// The last place of a bucket.
     pub(crate) fn head(&self, capacity: usize, bucket: usize) -> Option<usize>
-        requires few { capacity ≤ 1048576 }
+        requires few { capacity ≤ most_places }
         requires within { bucket < capacity }
         requires long { 3 * capacity ≤ length self.now.numbers.now }
         ensures { result ≡ head_of self.now.numbers.now capacity bucket }

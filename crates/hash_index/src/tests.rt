@@ -17,7 +17,13 @@ fn has_the_places_of_each_key(rt: HostRuntime) {
         assert!(rt; index.push(key), "{key}");
     }
     assert!(rt; !index.push(3), "all places are in use");
-    for (key, due) in [(1, Some(2)), (5, Some(1)), (2, Some(3)), (9, None), (0, None)] {
+    for (key, due) in [
+        (1, Some(2)),
+        (5, Some(1)),
+        (2, Some(3)),
+        (9, None),
+        (0, None),
+    ] {
         assert_eq!(rt; index.last(key), due, "{key}");
     }
     for (place, due) in [(0, None), (1, None), (2, Some(0)), (3, None), (4, None)] {

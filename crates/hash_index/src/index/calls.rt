@@ -16,7 +16,11 @@ impl<'a> HashIndex<'a> {
     pub fn new(numbers: &'a mut [u32]) -> Self
         ensures { result ≡ record { numbers = numbers.old; capacity = 0; keys = [] } }
     {
-        HashIndex { chains: Chains { numbers }, capacity: 0, used: 0 }
+        HashIndex {
+            chains: Chains { numbers },
+            capacity: 0,
+            used: 0,
+        }
     }
 
     /// Makes room for so many places, none of them in use. Refuses, and changes nothing, where the numbers are not three
@@ -25,7 +29,9 @@ impl<'a> HashIndex<'a> {
         ensures fits { result ≡ fits capacity self.old.numbers }
         ensures after { Started capacity self.old result self.new }
     {
-        if capacity > MOST_PLACES || self.chains.numbers.len() != NUMBERS_FOR_EACH_PLACE * capacity {
+        if capacity > MOST_PLACES
+            || self.chains.numbers.len() != NUMBERS_FOR_EACH_PLACE * capacity
+        {
             return false;
         }
         self.chains.clear(capacity);
@@ -40,7 +46,7 @@ impl<'a> HashIndex<'a> {
         ensures after { Pushed key self.old result self.new }
     {
         let place = self.used;
-        if place == self.capacity {
+        if place >= self.capacity {
             return false;
         }
         self.chains.add(self.capacity, place, key);
@@ -55,7 +61,9 @@ impl<'a> HashIndex<'a> {
         if self.capacity == 0 {
             return None;
         }
-        let head = self.chains.head(self.capacity, key as usize % self.capacity);
+        let head = self
+            .chains
+            .head(self.capacity, key as usize % self.capacity);
         self.along(head, key)
     }
 
@@ -69,7 +77,7 @@ impl<'a> HashIndex<'a> {
         self.along(self.chains.link(place), self.chains.key(place))
     }
 
-    /// The first place along a chain, from its given place on, that has the key.
+    /// The first place that has the key, along the chain that begins at `from`.
     fn along(&self, from: Option<usize>, key: u32) -> Option<usize>
         requires { MatchOption from ⊤ (λ place. place < length self.now.keys) }
         ensures { (n : ℕ) → IsLargest (IsInBucket self.now.numbers self.now.capacity (key % self.now.capacity)) n from → IsLast self.now.keys n key result }

@@ -1,10 +1,9 @@
-use Rattle.std.proofs.Common.{◌≡◌, ℕ, ◌+◌, ◌<◌, Some, None, Option, MatchOption, subst, sym, ap, ◌∙◌, arith}
+use Rattle.std.proofs.Common.{ℕ, ◌<◌, MatchOption, subst, sym, ◌∙◌, arith}
 use Rattle.std.specs.Prelude.{⊤}
 use Rattle.std.proofs.lemmas.Option.{MatchOption-at_some}
-use Rattle.hash_index.specs.Chains.{link_of}
 use Rattle.hash_index.proofs.Shown.{length_shown}
 use Rattle.hash_index.proofs.Largest.{largest_below, below_more}
-use Rattle.hash_index.proofs.Walking.{Ahead, begins, goes_on, finds, ends, left, left_fewer}
+use Rattle.hash_index.proofs.Walking.{Ahead, begins, goes_on, finds, ends, left_fewer}
 use Rattle.hash_index.proofs.index.HashIndex.along.Goals as goal
 
 pub loop-next-init : goal.loop-next-init

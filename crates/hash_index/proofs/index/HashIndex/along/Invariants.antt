@@ -1,4 +1,4 @@
-use Rattle.std.proofs.Common.{◌≡◌, ℕ, ◌+◌, ◌%◌, ◌<◌, Some, None, MatchOption}
+use Rattle.std.proofs.Common.{ℕ, ◌%◌, ◌<◌, MatchOption}
 use Rattle.std.specs.Prelude.{⊤}
 use Rattle.hash_index.specs.Chains.{IsInBucket, IsLargest}
 use Rattle.hash_index.proofs.Walking.{Ahead, left}

@@ -1,6 +1,6 @@
-use Rattle.std.proofs.Common.{◌≡◌, ℕ, ◌%◌, ◌<◌, ◌≤◌, length, slice_get, Some, refl, arith}
+use Rattle.std.proofs.Common.{◌≡◌, ◌<◌, ◌≤◌, length, slice_get, Some, refl, arith}
 use Rattle.std.proofs.lemmas.Option.{slice_get_past}
-use Rattle.hash_index.proofs.Keys.{length_keys, key_there}
+use Rattle.hash_index.proofs.Keys.{key_there}
 use Rattle.hash_index.proofs.Shown.{length_shown}
 use Rattle.hash_index.proofs.Largest.{largest_below, below_more}
 use Rattle.hash_index.proofs.index.HashIndex.earlier.Goals as goal

@@ -1,7 +1,7 @@
-use Rattle.std.proofs.Common.{◌≡◌, ℕ, ◌%◌, ◌<◌, arith}
+use Rattle.std.proofs.Common.{◌%◌, ◌<◌, arith}
 use Rattle.hash_index.proofs.Keys.{length_keys}
 use Rattle.hash_index.proofs.Shown.{length_shown}
-use Rattle.hash_index.proofs.Largest.{largest_below, below_more}
+use Rattle.hash_index.proofs.Largest.{largest_below}
 use Rattle.hash_index.proofs.index.HashIndex.last.Goals as goal
 
 pub along-requires : goal.along-requires

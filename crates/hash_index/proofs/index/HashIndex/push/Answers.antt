@@ -1,4 +1,4 @@
-use Rattle.std.proofs.Common.{◌≡◌, ℕ, ◌+◌, ◌%◌, ◌<◌, ◌≤◌, length, sym, refl, ap, ◌∙◌, arith}
+use Rattle.std.proofs.Common.{sym, refl, arith}
 use Rattle.std.proofs.lemmas.Bool.{lt-ltb, le-ltb}
 use Rattle.hash_index.proofs.Keys.{length_keys}
 use Rattle.hash_index.proofs.Adding.{added_length, keys_added, heads_added, links_added}
@@ -10,7 +10,7 @@ returns-then-place-self-clause-room c = rw (← c.self.view_is, length_keys) (sy
 
 pub invariant_of-self : goal.invariant_of-self
 invariant_of-self c =
-    let adds = next_fits c.self.inside c.self.invariant c.if-place-self.false in
+    let adds = next_fits c.self.inside c.self.invariant (omega arith) in
     record {
       few = omega arith;
       room = omega arith;
@@ -24,7 +24,7 @@ returns-clause-room c = rw (← c.self.view_is, length_keys) (sym (lt-ltb _ _ (o
 
 pub returns-clause-after : goal.returns-clause-after
 returns-clause-after c =
-    let adds = next_fits c.self.inside c.self.invariant c.if-place-self.false in
+    let adds = next_fits c.self.inside c.self.invariant (omega arith) in
     rw (← c.self.view_is, c.add.ensures) (record {
       keys = keys_added _ _ _ c.args.key adds;
       capacity = refl;
