@@ -1,10 +1,64 @@
--- Stub. Assumes nothing.
-use Rattle.std.specs.Prelude.{◌≡◌, ℕ, ◌≤◌, [], length}
+-- The chains of a hash index: how they lie in its numbers, and what they show. Assumes nothing.
+use Rattle.std.specs.Prelude.{◌≡◌, ℕ, zero, suc, ◌+◌, ◌*◌, ◌%◌, ◌<◌, ◌≤◌, ◌==◌, cond, List, [], ◌∷◌, ◌++◌, length, slice_index, slice_set, Some, None, Option}
 use Rattle.hash_index.specs.Index.{Index}
 use Rattle.hash_index.specs.declared.index.HashIndex.TheInside.{Inside}
 
-abbrev pub shown : Inside → Index
-shown h = record { numbers = h.chains.numbers.now; capacity = h.capacity; keys = [] }
+-- the most places that an index has
+abbrev pub most_places : ℕ
+most_places = 1048576
 
+-- the largest number of 32 bits, which stands where there is no place
+abbrev pub no_place : ℕ
+no_place = 4294967295
+
+-- the place that a number names
+abbrev pub place_of : ℕ → Option ℕ
+place_of number = cond (number == no_place) None (Some number)
+
+-- the key of a place
+abbrev pub key_of : List ℕ → ℕ → ℕ
+key_of numbers place = slice_index numbers (2 * place)
+
+-- the place before it in its bucket
+abbrev pub link_of : List ℕ → ℕ → Option ℕ
+link_of numbers place = place_of (slice_index numbers (2 * place + 1))
+
+-- the last place of a bucket
+abbrev pub head_of : List ℕ → ℕ → ℕ → Option ℕ
+head_of numbers capacity bucket = place_of (slice_index numbers (2 * capacity + bucket))
+
+-- the keys of the first n places
+abbrev pub keys_of : List ℕ → ℕ → List ℕ
+keys_of numbers zero = []
+keys_of numbers (suc n) = keys_of numbers n ++ (key_of numbers n ∷ [])
+
+-- a place is the new head of the bucket of its key, linked to the one that was
+abbrev pub added : List ℕ → ℕ → ℕ → ℕ → List ℕ
+added numbers capacity place key = slice_set (slice_set (slice_set numbers (2 * place) key) (2 * place + 1) (slice_index numbers (2 * capacity + key % capacity))) (2 * capacity + key % capacity) place
+
+-- the largest number below n of which Q holds, if there is one
+abbrev pub IsLargest : (ℕ → Type 0) → ℕ → Option ℕ → Type 0
+IsLargest Q n (Some place) = (place < n) × Q place × ((j : ℕ) → place < j → j < n → Q j → ⊥)
+IsLargest Q n None = (j : ℕ) → j < n → Q j → ⊥
+
+abbrev pub IsInBucket : List ℕ → ℕ → ℕ → ℕ → Type 0
+IsInBucket numbers capacity bucket place = key_of numbers place % capacity ≡ bucket
+
+-- each head is the last of the first n places that is in its bucket
+abbrev pub HeadsAreLast : List ℕ → ℕ → ℕ → Type 0
+HeadsAreLast numbers capacity n = (bucket : ℕ) → bucket < capacity → IsLargest (IsInBucket numbers capacity bucket) n (head_of numbers capacity bucket)
+
+-- each of the first n places is linked to the last place before it that is in its bucket
+abbrev pub LinksAreEarlier : List ℕ → ℕ → ℕ → Type 0
+LinksAreEarlier numbers capacity n = (place : ℕ) → place < n → IsLargest (IsInBucket numbers capacity (key_of numbers place % capacity)) place (link_of numbers place)
+
+-- the fields are those of an index
 pub record IsIndex (h : Inside) : Type 0 where
-  pub never : ⊥
+  pub few : h.capacity ≤ most_places
+  pub room : h.used ≤ h.capacity
+  pub long : 3 * h.capacity ≤ length h.chains.numbers.now
+  pub heads : HeadsAreLast h.chains.numbers.now h.capacity h.used
+  pub links : LinksAreEarlier h.chains.numbers.now h.capacity h.used
+
+abbrev pub shown : Inside → Index
+shown h = record { numbers = h.chains.numbers.now; capacity = h.capacity; keys = keys_of h.chains.numbers.now h.used }

@@ -1,5 +1,5 @@
 -- What a hash index is to those who use it, and what its calls do. Assumes nothing.
-use Rattle.std.specs.Prelude.{◌≡◌, ℕ, ◌+◌, ◌*◌, ◌<◌, ◌≤◌, Bool, true, false, ◌&&◌, ◌==◌, ◌≢◌, List, [], ◌∷◌, ◌++◌, length, nat_le, nat_lt, slice_get, slice_index, Some, None, Option}
+use Rattle.std.specs.Prelude.{◌≡◌, ℕ, ◌*◌, ◌<◌, Bool, true, false, ◌&&◌, ◌==◌, ◌≢◌, List, [], ◌∷◌, ◌++◌, length, nat_le, slice_get, Some, None, Option}
 
 -- the lent numbers, how many places there are, and the keys in the order in which they were added
 pub record Index : Type 0 where

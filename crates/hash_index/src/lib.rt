@@ -6,5 +6,7 @@
 
 mod chains;
 mod index;
+#[cfg(test)]
+mod tests;
 
 pub use index::HashIndex;

@@ -1,0 +1,5 @@
+pub mod Largest
+pub mod Keys
+pub mod Adding
+pub mod Walking
+pub mod Shown

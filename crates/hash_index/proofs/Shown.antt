@@ -1,0 +1,16 @@
+-- What an index that is shown says of its places. Assumes nothing.
+use Rattle.std.proofs.Common.{◌≡◌, ◌<◌, length, sym, ap, ◌∙◌}
+use Rattle.hash_index.specs.Index.{Index}
+use Rattle.hash_index.specs.Chains.{shown, IsIndex}
+use Rattle.hash_index.specs.declared.index.HashIndex.TheInside.{Inside}
+use Rattle.hash_index.proofs.Keys.{length_keys}
+use Rattle.hash_index.proofs.Adding.{Adds}
+
+module _ (inside : Inside) where
+  -- each place in use has a key
+  pub length_shown : (index : Index) → shown inside ≡ index → length index.keys ≡ inside.used
+  length_shown index is = ap (λ (i : Index). length i.keys) (sym is) ∙ length_keys inside.chains.numbers.now inside.used
+
+  -- where not all places are in use the next can be
+  pub next_fits : IsIndex inside → inside.used < inside.capacity → Adds inside.chains.numbers.now inside.capacity inside.used
+  next_fits index room = record { few = index.few; room = room; long = index.long }
