@@ -59,11 +59,12 @@ module _ {P : Type 0} where
     pub whole : numbers_of c ≡ 8 * length c.table → (length c.open_list.numbers ≡ 4 * length c.table) × (length c.index.numbers ≡ 3 * length c.table) × (length c.links ≡ length c.table)
     pub ready : c.opened ≡ true → c.open_list.capacity ≡ length c.table
 
-  -- nothing but the nodes and what they are kept in changed
+  -- nothing but the nodes and what they are kept in changed, and no place is given up
   pub record Framed (old new : Contents P) : Type 0 where
     pub table : length new.table ≡ length old.table
     pub numbers : numbers_of new ≡ numbers_of old
     pub capacity : new.open_list.capacity ≡ old.open_list.capacity
+    pub longer : length old.open_list.entries ≤ length new.open_list.entries
     pub opened : new.opened ≡ old.opened
     pub verdict : new.verdict ≡ old.verdict
     pub steps : new.steps ≡ old.steps

@@ -2,7 +2,7 @@
 ghost use Rattle.std.specs.Prelude.{◌≡◌, ◌<◌, ◌+◌, ◌^◌, true, length, nat_lt, slice_get, Some, IfSome};
 ghost use Rattle.puzzle.specs.Game.{Reached};
 ghost use Rattle.search_theory.specs.declared.Verdict.TheVariants.{Running};
-ghost use Rattle.search_theory.specs.Nodes.{Node, NoneOpen};
+ghost use Rattle.search_theory.specs.Nodes.{Node, closed, NoneOpen};
 ghost use Rattle.search_theory.specs.Known.{Known};
 ghost use Rattle.search_theory.specs.Steps.{state, Step};
 ghost use Rattle.open_list.specs.Entries.{entry};
@@ -41,7 +41,7 @@ impl<'a, P: Copy> Search<'a, P> {
     pub(crate) fn store(&mut self, position: P, key: u32, floor: u16, reach: Reach) -> bool
         requires parent { reach.parent < 1048576 }
         requires number { reach.number < 256 }
-        ensures room { result ≡ nat_lt (length self.old.open_list.entries) self.old.open_list.capacity }
+        ensures room { result ≡ nat_lt (length (nodes_of self.old)) self.old.open_list.capacity }
         ensures after { Stored (node_of position (entry reach.depth floor true) key (link_of reach.parent reach.number)) self.old result self.new }
     {
         let place = self.open_list.len();
@@ -69,8 +69,9 @@ impl<'a, P: Copy> Search<'a, P> {
     /// Plays a move from the node at a place, and answers whether there was room for where it leads.
     fn play_move<Z: Puzzle<Position = P>>(&mut self, puzzle: &Z, place: usize, from: &P, depth: u32, number: u32) -> bool
         requires place { place < length self.old.open_list.entries }
+        requires few { place < 1048576 }
         requires number { number < Z.Puzzle.MOVES }
-        ensures moves { let m = Z.Puzzle.meaning puzzle.now in (taken : Node P) → slice_get (nodes_of self.old) place ≡ Some taken → taken.position ≡ from.now → taken.depth ≡ depth → Known m (nodes_of self.old) → Moved m self.old.open_list.capacity place taken number self.old result self.new }
+        ensures moves { let m = Z.Puzzle.meaning puzzle.now in (taken : Node P) → slice_get (nodes_of self.old) place ≡ Some (closed taken) → taken.position ≡ from.now → taken.depth ≡ depth → depth < 1048576 → Known m (nodes_of self.old) → Moved m self.old.open_list.capacity place taken number self.old result self.new }
         ensures frame { Framed self.old self.new }
     {
         let mut to = *from;
@@ -96,7 +97,8 @@ impl<'a, P: Copy> Search<'a, P> {
     /// Plays every move from the node at a place, and answers whether there was room.
     fn expand<Z: Puzzle<Position = P>>(&mut self, puzzle: &Z, place: usize, from: &P, depth: u32) -> bool
         requires place { place < length self.old.open_list.entries }
-        ensures moves { let m = Z.Puzzle.meaning puzzle.now in (taken : Node P) → slice_get (nodes_of self.old) place ≡ Some taken → taken.position ≡ from.now → taken.depth ≡ depth → Known m (nodes_of self.old) → Expanded m self.old.open_list.capacity place taken self.old result self.new }
+        requires few { place < 1048576 }
+        ensures moves { let m = Z.Puzzle.meaning puzzle.now in (taken : Node P) → slice_get (nodes_of self.old) place ≡ Some (closed taken) → taken.position ≡ from.now → taken.depth ≡ depth → depth < 1048576 → Known m (nodes_of self.old) → Expanded m self.old.open_list.capacity place taken self.old result self.new }
         ensures frame { Framed self.old self.new }
     {
         for number in 0..Z::MOVES {

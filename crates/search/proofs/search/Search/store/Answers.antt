@@ -1,11 +1,23 @@
-use Rattle.std.proofs.Common.{◌≡◌, ◌<◌, ◌+◌, ◌++◌, ◌∷◌, [], true, nat_lt, sym, ap, subst, refl, ◌∙◌, rules, arith, length, length-set, set, Some}
+use Rattle.std.proofs.Common.{◌≡◌, ◌<◌, ◌+◌, ◌++◌, ◌∷◌, [], true, nat_lt, sym, ap, subst, refl, ◌∙◌, rules, arith, length, length-set, length-append, set, Some}
 use Rattle.std.proofs.lemmas.Bool.{ltb-true, lt-ltb}
 use Rattle.open_list.specs.Entries.{entry}
 use Rattle.open_list.specs.OpenList as open_list
 use Rattle.hash_index.specs.Index as index
 use Rattle.search.specs.Contents.{nodes_of, nodes_from, link_of}
-use Rattle.search.proofs.Nodes.{nodes_push}
+use Rattle.search.proofs.Nodes.{nodes_push, length-nodes}
 use Rattle.search.proofs.search.Search.store.Goals as goal
+
+pub returns-then-not-push-clause-room : goal.returns-then-not-push-clause-room
+unfolding nodes_of
+returns-then-not-push-clause-room g c =
+    let h = c.self.invariant.sound in
+    rw (← c.self.view_is, length-nodes c.self.inside.table.places.now c.self.inside.open_list.entries c.self.inside.index.keys c.self.inside.links.numbers.now h.keyed (omega (arith, h.used, h.deep)) (omega (arith, h.used, h.linked))) (sym c.if-not-push.true ∙ c.push.ensures.room)
+
+pub returns-clause-room : goal.returns-clause-room
+unfolding nodes_of
+returns-clause-room g c =
+    let h = c.self.invariant.sound in
+    rw (← c.self.view_is, length-nodes c.self.inside.table.places.now c.self.inside.open_list.entries c.self.inside.index.keys c.self.inside.links.numbers.now h.keyed (omega (arith, h.used, h.deep)) (omega (arith, h.used, h.linked))) (sym c.if-not-push.false ∙ c.push.ensures.room)
 
 pub returns-clause-after : goal.returns-clause-after
 unfolding nodes_of
@@ -34,9 +46,13 @@ returns-clause-after g c =
         ∙ nodes_push ps es ks ls c.args.position e c.args.key link h.keyed (omega (arith, h.deep)) (omega (arith, h.linked))
       ),
       record {
-        table = ?;
-        numbers = ?;
-        capacity = ?;
+        table = ap length c.put.ensures ∙ length-set ps _ c.args.position;
+        numbers = (
+          let link_numbers : length c.put-2.new.self.numbers.now ≡ length ls = ap length c.put-2.ensures ∙ length-set ls _ link in
+          omega (arith, pushed.numbers, key_pushed.numbers)
+        );
+        capacity = pushed.capacity;
+        longer = simp (pushed.entries, length-append) (omega arith);
         opened = refl;
         verdict = refl;
         steps = refl;

@@ -1,0 +1,48 @@
+-- What playing a move comes to. Assumes nothing.
+use Rattle.std.proofs.Common.{◌≡◌, refl, sym, ap, subst, ◌∙◌, arith, ℕ, ◌+◌, ◌<◌, ◌≤◌, Bool, true, false, cond, nat_lt, List, [], ◌∷◌, ◌++◌, length, set, slice_get, Some, None, Option}
+use Rattle.std.proofs.lemmas.Bool.{ltb-true, ltb-false, cond-true, cond-false}
+use Rattle.puzzle.specs.Game.{Played, Reached}
+use Rattle.puzzle.specs.Meaning.{Meaning}
+use Rattle.open_list.specs.Entries.{entry}
+use Rattle.search_theory.specs.Nodes.{Node, IsNew, reached_again}
+use Rattle.search_theory.specs.Steps.{new_node, MovePlayed, dead_end, no_nearer, nearer, stored, Overflows}
+use Rattle.search.specs.Contents.{Contents, node_of, nodes_of, link_of}
+use Rattle.search.specs.Parts.{Finds, Stored, relaxed, Moved}
+use Rattle.search.proofs.Relaxing.{link_parent, link_move}
+
+-- an open move leads to what it filled
+pub leads_to : {P : Type 0} (o : Option P) (is : Bool) (old to : P) → Played o is old to → is ≡ true → o ≡ Some to
+leads_to {P} (Some q) is old to played yes′ = ap Some (sym played.1)
+leads_to {P} None is old to played yes′ = (let shut = played.0 in absurd (cc))
+
+module _ {P : Type 0} (m : Meaning P) (capacity place : ℕ) (taken : Node P) (number : ℕ) (nodes : List (Node P)) (to : P) (leads : m.game.move taken.position number ≡ Some to) where
+  -- the result is stored already
+  pub known_again : (j depth : ℕ) (new : List (Node P)) → depth ≡ taken.depth + 1 → Finds nodes to (Some j) → new ≡ relaxed nodes j (slice_get nodes j) depth place number
+      → MovePlayed m capacity place taken number nodes new
+  known_again j depth new deep found is =
+      by_test (nat_lt depth found.0.depth) refl (is ∙ ap (λ o. relaxed nodes j o depth place number) found.1)
+    where
+      by_test : (b : Bool) → nat_lt depth found.0.depth ≡ b → new ≡ cond (nat_lt depth found.0.depth) (set nodes j (reached_again found.0 depth place number)) nodes → MovePlayed m capacity place taken number nodes new
+      by_test true test same =
+          let fewer = ltb-true depth found.0.depth test in
+          nearer to j found.0 leads found.1 found.2 (omega arith)
+          (same ∙ cond-true (nat_lt depth found.0.depth) _ _ test ∙ ap (λ d. set nodes j (reached_again found.0 d place number)) deep)
+      by_test false test same =
+          let further = ltb-false depth found.0.depth test in
+          no_nearer to j found.0 leads found.1 found.2 (omega arith) (same ∙ cond-false (nat_lt depth found.0.depth) _ _ test)
+
+  -- the node that is stored for a new result
+  its_node : (key depth floor : ℕ) → depth ≡ taken.depth + 1 → key ≡ m.key to → number < 256 → node_of to (entry depth floor true) key (link_of place number) ≡ new_node m capacity to (taken.depth + 1) place number floor
+  its_node key depth floor deep keyed small =
+      let a = link_parent place number small in
+      let b = link_move place number small in
+      cc
+
+  -- the result is new: it is stored, or there is no room
+  pub known_new : (old new : Contents P) (room : Bool) (key depth floor : ℕ) → nodes ≡ nodes_of old → depth ≡ taken.depth + 1 → key ≡ m.key to → number < 256 → IsNew nodes to → m.lower_bound to ≡ Some floor
+      → room ≡ nat_lt (length nodes) capacity → Stored (node_of to (entry depth floor true) key (link_of place number)) old room new → Moved m capacity place taken number old room new
+  known_new old new true key depth floor is deep keyed small fresh alive room after =
+      subst (λ ns. MovePlayed m capacity place taken number ns (nodes_of new)) is
+      (stored to floor leads fresh alive (ltb-true (length nodes) capacity (sym room)) (after.0 ∙ ap (λ ns. ns ++ (node_of to (entry depth floor true) key (link_of place number) ∷ [])) (sym is) ∙ ap (λ n. nodes ++ (n ∷ [])) (its_node key depth floor deep keyed small)))
+  known_new old new false key depth floor is deep keyed small fresh alive room after =
+      (subst (λ ns. Overflows m capacity place taken number ns) is (record { result = to; floor = floor; leads = leads; fresh = fresh; alive = alive; full = ltb-false (length nodes) capacity (sym room) }), ap nodes_of after)
