@@ -5,3 +5,4 @@ pub mod Finding
 pub mod Playing
 pub mod Fronts
 pub mod Turns
+pub mod Openings

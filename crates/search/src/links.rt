@@ -28,13 +28,12 @@ impl<'a> Links<'a> {
         put_in(self.numbers, place, MOVES * parent + number);
     }
 
-    /// The place that a node was last reached from, and by which move.
+    /// The place that a node was last reached from, and by which move; 0 and 0 past the last place.
     pub(crate) fn get(&self, place: usize) -> (usize, u32)
-        requires { place < length self.now.numbers.now }
         ensures parent { result.0 ≡ slice_index self.now.numbers.now place / 256 }
         ensures number { result.1 ≡ slice_index self.now.numbers.now place % 256 }
     {
-        let link = self.numbers[place];
+        let link = self.numbers.get(place).copied().unwrap_or(0);
         ((link / MOVES) as usize, link % MOVES)
     }
 }

@@ -49,6 +49,20 @@ recite_refused_as TableFull room = Some NotSolved
 abbrev pub recite_refusal : {P : Type 0} → Search P → ℕ → Option Fault
 recite_refusal s room = elim s.state [ Some t ↦ recite_refused_as t.verdict room | None ↦ Some NotOpen ]
 
+-- what a refused call answers
+abbrev pub refusal_in : {A : Type 0} → Result A Fault → Option Fault
+refusal_in (Ok a) = None
+refusal_in (Err e) = Some e
+
+-- where a search stands
+abbrev pub report_of : {P : Type 0} → State P → Report
+report_of t = record { verdict = t.verdict; steps = t.steps; places = length t.nodes }
+
+-- asking for the verdict
+abbrev pub Reports : {P : Type 0} → Search P → Result Report Fault → Type 0
+Reports {P} s (Ok answer) = (t : State P) × (s.state ≡ Some t) × (answer ≡ report_of t)
+Reports s (Err e) = verdict_refusal s ≡ Some e
+
 module _ {P : Type 0} (m : Meaning P) where
   -- What the calls do for a puzzle. A refusal changes nothing.
 
@@ -71,14 +85,6 @@ module _ {P : Type 0} (m : Meaning P) where
   abbrev pub Advances : ℕ → Search P → Result Advance Fault → Search P → Type 0
   Advances budget old (Ok answer) new = AdvancesBy budget old answer new
   Advances budget old (Err e) new = (advance_refusal old budget ≡ Some e) × (new ≡ old)
-
-  abbrev pub report_of : State P → Report
-  report_of t = record { verdict = t.verdict; steps = t.steps; places = length t.nodes }
-
-  -- asking for the verdict
-  abbrev pub Reports : Search P → Result Report Fault → Type 0
-  Reports s (Ok answer) = (t : State P) × (s.state ≡ Some t) × (answer ≡ report_of t)
-  Reports s (Err e) = verdict_refusal s ≡ Some e
 
   -- n legal moves that finish stand at the front of the list, and the rest of it is as it was
   pub record RecitesWay (n : ℕ) (before after : List ℕ) : Type 0 where
@@ -103,7 +109,7 @@ module _ {P : Type 0} (m : Meaning P) where
   abbrev pub Happens : Search P → Call → Search P → Type 0
   Happens old (opening answer) new = Opens m old answer new
   Happens old (advance budget answer) new = Advances m budget old answer new
-  Happens old (asking answer) new = Reports m old answer × (new ≡ old)
+  Happens old (asking answer) new = Reports old answer × (new ≡ old)
   Happens old (recital before answer after) new = Recites m old before answer after × (new ≡ old)
 
   -- the calls, of which the latest comes first, led from one search to another

@@ -1,12 +1,12 @@
 //! A step and its parts.
-ghost use Rattle.std.specs.Prelude.{◌≡◌, ◌<◌, ◌+◌, ◌^◌, true, length, nat_lt, slice_get, Some, IfSome};
+ghost use Rattle.std.specs.Prelude.{◌≡◌, [], ◌<◌, ◌+◌, ◌^◌, true, length, nat_lt, slice_get, Some, IfSome};
 ghost use Rattle.puzzle.specs.Game.{Reached};
 ghost use Rattle.search_theory.specs.declared.Verdict.TheVariants.{Running};
 ghost use Rattle.search_theory.specs.Nodes.{Node, closed, NoneOpen};
 ghost use Rattle.search_theory.specs.Known.{Known};
-ghost use Rattle.search_theory.specs.Steps.{state, Step};
+ghost use Rattle.search_theory.specs.Steps.{state, begun, Step};
 ghost use Rattle.open_list.specs.Entries.{entry};
-ghost use Rattle.search.specs.Contents.{Contents, node_of, link_of, nodes_of, Framed};
+ghost use Rattle.search.specs.Contents.{Contents, node_of, link_of, nodes_of, numbers_of, Framed};
 ghost use Rattle.search.specs.Parts.{Finds, Stored, relaxed, Moved, Expanded};
 
 use super::Search;
@@ -19,6 +19,15 @@ pub(crate) struct Reach {
     pub(crate) depth: u32,
     pub(crate) parent: u32,
     pub(crate) number: u32,
+}
+
+impl Reach {
+    /// How the start is reached: with no moves. Its link is never followed.
+    pub(crate) const AT_START: Reach = Reach {
+        depth: 0,
+        parent: 0,
+        number: 0,
+    };
 }
 
 impl<'a, P: Copy> Search<'a, P> {
@@ -52,6 +61,22 @@ impl<'a, P: Copy> Search<'a, P> {
         self.table.put(place, position);
         self.links.put(place, reach.parent, reach.number);
         true
+    }
+
+    /// Stores the start with no moves made, open; or, if it is dead, nothing, and there is no way.
+    pub(crate) fn store_start<Z: Puzzle<Position = P>>(&mut self, puzzle: &Z)
+        ensures begins { nodes_of self.old ≡ [] → 0 < self.old.open_list.capacity → self.old.steps ≡ 0 → state (nodes_of self.new) self.new.verdict self.new.steps ≡ begun (Z.Puzzle.meaning puzzle.now) (length self.old.table) }
+        ensures table { length self.new.table ≡ length self.old.table }
+        ensures numbers { numbers_of self.new ≡ numbers_of self.old }
+        ensures opened { self.new.opened ≡ self.old.opened }
+    {
+        let start = puzzle.start();
+        let Some(floor) = puzzle.lower_bound(&start) else {
+            self.verdict = Verdict::Unsolvable;
+            return;
+        };
+        self.verdict = Verdict::Running;
+        self.store(start, puzzle.key(&start), floor, Reach::AT_START);
     }
 
     /// A stored node was reached again: with fewer moves, it takes them and is open.
@@ -113,6 +138,7 @@ impl<'a, P: Copy> Search<'a, P> {
     pub(crate) fn step<Z: Puzzle<Position = P>>(&mut self, puzzle: &Z)
         ensures steps { let m = Z.Puzzle.meaning puzzle.now in Known m (nodes_of self.old) → self.old.opened ≡ true → self.old.verdict ≡ Running → self.old.steps + 1 < 2 ^ 64 → (NoneOpen (nodes_of self.old) → ⊥) → Step m (length self.old.table) (state (nodes_of self.old) self.old.verdict self.old.steps) (state (nodes_of self.new) self.new.verdict self.new.steps) }
         ensures table { length self.new.table ≡ length self.old.table }
+        ensures numbers { numbers_of self.new ≡ numbers_of self.old }
         ensures opened { self.new.opened ≡ self.old.opened }
     {
         // A running search has an open node.
