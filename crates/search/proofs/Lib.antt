@@ -6,3 +6,4 @@ pub mod Playing
 pub mod Fronts
 pub mod Turns
 pub mod Openings
+pub mod Advancing

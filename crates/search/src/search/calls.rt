@@ -1,5 +1,6 @@
 //! The calls of a search.
-ghost use Rattle.std.specs.Prelude.{◌≡◌, length, OnErr};
+ghost use Rattle.std.specs.Prelude.{◌≡◌, ◌↔◌, IsTrue, length, OnErr};
+ghost use Rattle.search_theory.specs.declared.Verdict.TheVariants.{Running};
 ghost use Rattle.search.specs.Contents.{search_of};
 ghost use Rattle.search_theory.specs.Calls.{new_search, Opens, Served, Advances, advance_refusal, Reports, Recites, recite_refusal, refusal_in};
 ghost use Rattle.search_theory.specs.Promise.{Promise};
@@ -97,7 +98,7 @@ impl<'a, P: Copy> Search<'a, P> {
             return Err(Fault::NoBudget);
         }
         let mut steps = 0;
-        while steps < budget && self.verdict == Verdict::Running {
+        while steps < budget && self.is_running() {
             self.step(puzzle);
             steps += 1;
         }
@@ -105,6 +106,13 @@ impl<'a, P: Copy> Search<'a, P> {
             verdict: self.verdict,
             steps,
         })
+    }
+
+    // Whether no final verdict stands.
+    fn is_running(&self) -> bool
+        ensures { IsTrue result ↔ (self.now.verdict ≡ Running) }
+    {
+        matches!(self.verdict, Verdict::Running)
     }
 
     /// Where the search stands. Refused where it has not been opened.

@@ -1,17 +1,55 @@
-use Rattle.std.proofs.Common.{rules, ◌≡◌, length, OnErr, ℕ, ◌+◌, ◌-◌, ◌*◌, ◌<◌, ◌≤◌, ◌/◌, ◌%◌, Bool, true, false, nat_eq, nat_lt, List, [], ◌∷◌, ◌++◌, slice_index_or, slice_set, bit_and, bit_or, Fits, w8, w32, w64, Bor, MutBor}
-use Rattle.search.specs.Contents.{search_of}
-use Rattle.search_theory.specs.Calls.{new_search, Opens, Served, Advances, advance_refusal, Reports, Recites, recite_refusal, refusal_in}
-use Rattle.search_theory.specs.Promise.{Promise}
+use Rattle.std.proofs.Common.{◌≡◌, ◌≤◌, ◌+◌, true, sym, ap, subst, refl, ◌∙◌, arith, add-one, length}
+use Rattle.std.proofs.lemmas.Bool.{true≢false}
+use Rattle.search_theory.specs.Steps.{state, Step, Steps, none, next}
+use Rattle.search_theory.specs.declared.Verdict.TheVariants.{Running}
+use Rattle.search_theory.proofs.Promise.{held_steps}
+use Rattle.search.specs.Contents.{nodes_of, search_of}
+use Rattle.search.proofs.Openings.{state_as, search_as}
+use Rattle.search.proofs.Advancing.{few_steps, may_advance}
 use Rattle.search.proofs.search.Search.advance.Goals as goal
+use Rattle.search.proofs.search.Search.advance.Goals.{then-loop-steps-test+else-is_running, else-loop-steps-test}
 
--- src/search/calls.rt:99:9
 pub loop-steps-init : goal.loop-steps-init
-loop-steps-init g c = ?
+loop-steps-init g c = record { opened = rw (← c.self.view_is) c.if-not-self.false; table = refl; numbers = refl; within = omega arith; taken = λ served. none }
 
--- src/search/calls.rt:99:9
 pub loop-steps-preserved : goal.loop-steps-preserved
-loop-steps-preserved g c = ?
+loop-steps-preserved g c = record {
+  opened = c.step.ensures.opened ∙ c.loop-steps.invariant.opened;
+  table = c.step.ensures.table ∙ c.loop-steps.invariant.table;
+  numbers = c.step.ensures.numbers ∙ c.loop-steps.invariant.numbers;
+  within = omega arith;
+  taken = λ served.
+    let m = g.Z.Puzzle.meaning c.args.puzzle.now in
+    let first = c.args.self.now in
+    let mid = c.loop-steps.self in
+    let new = c.step.new.self in
+    let opened : first.opened ≡ true = rw (← c.self.view_is) c.if-not-self.false in
+    let before = c.loop-steps.invariant.taken served in
+    let held = held_steps m (g.met.Z.Puzzle.lawful c.args.puzzle.now) (search_of first) served (state (nodes_of first) first.verdict first.steps) (state_as first opened) c.loop-steps.steps (state (nodes_of mid) mid.verdict mid.steps) before in
+    let runs : mid.verdict ≡ Running = c.if-is_running.ensures.0 refl in
+    let step = c.step.ensures.steps held.known c.loop-steps.invariant.opened runs (few_steps (length first.table) mid.steps held.few (held.unended runs)) (held.busy runs) in
+    rw add-one (next before (subst (λ n. Step m n (state (nodes_of mid) mid.verdict mid.steps) (state (nodes_of new) new.verdict new.steps)) c.loop-steps.invariant.table step));
+}
 
--- src/search/calls.rt:87:5
 pub returns-clause-advances : goal.returns-clause-advances
-returns-clause-advances g c = ?
+returns-clause-advances g c = λ served.
+    let first = c.args.self.now in
+    let last = c.loop-steps.self in
+    let h = c.loop-steps.invariant in
+    let opened : first.opened ≡ true = rw (← c.self.view_is) c.if-not-self.false in
+    let before = state (nodes_of first) first.verdict first.steps in
+    let after = state (nodes_of last) last.verdict last.steps in
+    record {
+      granted = may_advance (search_of first) before c.args.budget (state_as first opened) (omega arith);
+      first = before;
+      last = after;
+      from = state_as first opened;
+      to = search_as last (search_of first) after h.table h.numbers h.opened refl;
+      steps = h.taken served;
+      within = h.within;
+      enough = λ runs. elim c.loop-steps-test.branch [
+        | then-loop-steps-test+else-is_running w ↦ absurd (true≢false (sym (w.is_running.ensures.1 runs) ∙ w.if-is_running.false))
+        | else-loop-steps-test w ↦ (let done = w.loop-steps-test.false in let within = h.within in omega arith)
+      ];
+      verdict = ap (λ x. x.verdict) c.self-2.view_is;
+    }
