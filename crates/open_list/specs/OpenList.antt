@@ -1,5 +1,5 @@
 -- What an open list is to those who use it, and what its calls do. Assumes nothing.
-use Rattle.std.specs.Prelude.{◌≡◌, ℕ, ◌+◌, ◌*◌, ◌≤◌, Bool, true, false, cond, ◌&&◌, ◌==◌, List, [], ◌∷◌, ◌++◌, length, nat_le, nat_lt, slice_get, slice_set, Some, None, Option}
+use Rattle.std.specs.Prelude.{◌≡◌, ℕ, ◌*◌, Bool, true, false, ◌&&◌, ◌==◌, List, [], ◌∷◌, ◌++◌, length, nat_le, nat_lt, slice_get, slice_set, Some, None, Option}
 use Rattle.open_list.specs.Entries.{Entry, entry, closed, reached}
 
 -- the lent numbers, how many places there are, and the entries in the order in which they were added
@@ -13,8 +13,8 @@ abbrev pub fits : ℕ → List ℕ → Bool
 fits capacity numbers = nat_le capacity 1048576 && (length numbers == 4 * capacity)
 
 -- the same numbers, in length, for as many places, with these entries
-pub record Has (old new : Open) (es : List Entry) : Type 0 where
-  pub entries : new.entries ≡ es
+pub record Has (old new : Open) (listed : List Entry) : Type 0 where
+  pub entries : new.entries ≡ listed
   pub capacity : new.capacity ≡ old.capacity
   pub numbers : length new.numbers ≡ length old.numbers
 

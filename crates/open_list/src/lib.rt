@@ -8,3 +8,6 @@ mod heap;
 mod open_list;
 
 pub use open_list::OpenList;
+
+#[cfg(test)]
+mod tests;

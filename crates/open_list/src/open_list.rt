@@ -1,4 +1,4 @@
-use crate::heap::Heap;
+use crate::heap::{Heap, Sizes};
 use std::marker::Model;
 
 mod calls;
@@ -7,9 +7,7 @@ mod calls;
 #[derive(Drop)]
 pub struct OpenList<'a> {
     heap: Heap<'a>,
-    capacity: usize,
-    used: usize,
-    open: usize,
+    sizes: Sizes,
 }
 
 impl<'a> Model for OpenList<'a> {

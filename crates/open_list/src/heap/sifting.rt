@@ -1,0 +1,89 @@
+ghost use Rattle.std.specs.Prelude.{◌≡◌, ◌+◌, ◌<◌};
+ghost use Rattle.open_list.specs.Layout.{place_in, above, rank};
+ghost use Rattle.open_list.specs.Sifting.{Stored, PlacesFrom, Rising, Sinking, Sifted, IsLaterAbove, IsEarlier, IsEarlierBelow};
+
+use super::Sizes;
+use super::layout::{place_in, put, rank};
+
+/// Puts a place into the heap, in a slot or one above it.
+pub(crate) fn sift_up(numbers: &mut [u32], sizes: Sizes, from: usize, place: usize)
+    requires { Rising (rank numbers.old) numbers.old sizes from place }
+    ensures { Sifted place numbers.old numbers.new sizes }
+{
+    let own = rank(numbers, place);
+    let mut slot = from;
+    while let Some(later) = later_above(numbers, sizes, slot, own) {
+        put(numbers, sizes.capacity, slot, later);
+        slot = (slot - 1) / 2;
+    }
+    put(numbers, sizes.capacity, slot, place);
+}
+
+/// Puts a place into the heap, in a slot or one below it.
+pub(crate) fn sift_down(numbers: &mut [u32], sizes: Sizes, from: usize, place: usize)
+    requires { Sinking (rank numbers.old) numbers.old sizes from place }
+    ensures { Sifted place numbers.old numbers.new sizes }
+{
+    let own = rank(numbers, place);
+    let mut slot = from;
+    while let Some(below) = earlier_below(numbers, sizes, slot, own) {
+        let earlier = place_in(numbers, sizes.capacity, below);
+        put(numbers, sizes.capacity, slot, earlier);
+        slot = below;
+    }
+    put(numbers, sizes.capacity, slot, place);
+}
+
+// The place above a slot, if it comes after a rank.
+fn later_above(numbers: &[u32], sizes: Sizes, slot: usize, bound: u128) -> Option<usize>
+    requires stored { Stored numbers.now sizes }
+    requires slot_in { slot < sizes.queued }
+    requires above_in { 0 < slot → place_in numbers.now sizes.capacity (above slot) < sizes.capacity }
+    ensures { IsLaterAbove numbers.now sizes.capacity slot bound result }
+{
+    if slot == 0 {
+        return None;
+    }
+    let place = place_in(numbers, sizes.capacity, (slot - 1) / 2);
+    (bound < rank(numbers, place)).then_some(place)
+}
+
+// The slot below a slot whose place comes first, if that comes before a rank.
+fn earlier_below(numbers: &[u32], sizes: Sizes, slot: usize, bound: u128) -> Option<usize>
+    requires stored { Stored numbers.now sizes }
+    requires slot_in { slot < sizes.queued }
+    requires places { PlacesFrom (slot + 1) numbers.now sizes }
+    ensures { IsEarlierBelow numbers.now sizes slot bound result }
+{
+    let left = 2 * slot + 1;
+    if left >= sizes.queued {
+        return None;
+    }
+    let first = earlier(numbers, sizes, left);
+    (rank_in(numbers, sizes, first) < bound).then_some(first)
+}
+
+// Of a slot and the next in the heap the one whose place comes first.
+fn earlier(numbers: &[u32], sizes: Sizes, slot: usize) -> usize
+    requires stored { Stored numbers.now sizes }
+    requires slot_in { slot < sizes.queued }
+    requires places { PlacesFrom slot numbers.now sizes }
+    ensures { IsEarlier numbers.now sizes slot result }
+{
+    let next = slot + 1;
+    if next < sizes.queued && rank_in(numbers, sizes, next) < rank_in(numbers, sizes, slot) {
+        next
+    } else {
+        slot
+    }
+}
+
+// The rank of the place in a slot.
+fn rank_in(numbers: &[u32], sizes: Sizes, slot: usize) -> u128
+    requires stored { Stored numbers.now sizes }
+    requires slot_in { slot < sizes.queued }
+    requires place_small { place_in numbers.now sizes.capacity slot < sizes.capacity }
+    ensures { result ≡ rank numbers.now (place_in numbers.now sizes.capacity slot) }
+{
+    rank(numbers, place_in(numbers, sizes.capacity, slot))
+}
