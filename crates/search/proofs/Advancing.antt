@@ -1,8 +1,8 @@
 -- What an advance needs to know. Assumes nothing.
-use Rattle.std.proofs.Common.{◌≡◌, refl, sym, ap, ◌∙◌, arith, ℕ, ◌+◌, ◌*◌, ◌^◌, ◌<◌, ◌≤◌, true, nat_le, Some, None, mul-le-mul_left}
+use Rattle.std.proofs.Common.{◌≡◌, refl, arith, ℕ, ◌+◌, ◌*◌, ◌^◌, ◌<◌, ◌≤◌, true, nat_le, Some, None, mul-le-mul_left}
 use Rattle.std.proofs.lemmas.Bool.{le-leb}
 use Rattle.search_theory.specs.Steps.{State}
-use Rattle.search_theory.specs.Calls.{Search, unopened, advance_refusal}
+use Rattle.search_theory.specs.Calls.{Search, advance_refusal}
 
 -- there are too few steps to overflow their count
 pub few_steps : (places steps : ℕ) → places ≤ 1048576 → steps < places * places → steps + 1 < 2 ^ 64

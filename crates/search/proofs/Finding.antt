@@ -1,6 +1,6 @@
 -- A position is looked up by its key, from the last place to the first. Assumes nothing.
-use Rattle.std.proofs.Common.{◌≡◌, ◌≢◌, refl, sym, ap, subst, ◌∙◌, inl, inr, ◌⊎◌, arith, ℕ, zero, suc, ◌+◌, ◌<◌, ◌≤◌, Bool, true, false, List, length, slice_get, Some, None, Option, IfSome}
-use Rattle.std.proofs.lemmas.Option.{slice_get_within, same_Some}
+use Rattle.std.proofs.Common.{◌≡◌, ◌≢◌, sym, ap, subst, ◌∙◌, inl, inr, ◌⊎◌, arith, ℕ, suc, ◌<◌, ◌≤◌, Bool, true, false, List, length, slice_get, Some, None, Option, IfSome}
+use Rattle.std.proofs.lemmas.Option.{slice_get_within}
 use Rattle.std.proofs.lemmas.Bool.{cases_lt}
 use Rattle.puzzle.specs.Game.{Reached}
 use Rattle.puzzle.specs.Meaning.{Meaning, Lawful}
@@ -9,8 +9,8 @@ use Rattle.hash_index.specs.Index.{IsLast, IsEarlier}
 use Rattle.search_theory.specs.Nodes.{Node, IsNew}
 use Rattle.search_theory.specs.Known.{Known}
 use Rattle.search.specs.Contents.{nodes_from}
-use Rattle.search.specs.Parts.{SameAt, Finds}
-use Rattle.search.proofs.Nodes.{Parts, node_parts, some_there}
+use Rattle.search.specs.Parts.{SameAt}
+use Rattle.search.proofs.Nodes.{node_parts}
 
 -- one more than the place, or none
 abbrev pub places_left : Option ℕ → ℕ

@@ -1,5 +1,5 @@
 -- What the parts of a step leave as it was. Assumes nothing.
-use Rattle.std.proofs.Common.{◌≡◌, refl, ◌∙◌, arith, ◌≤◌}
+use Rattle.std.proofs.Common.{refl, ◌∙◌, arith}
 use Rattle.search.specs.Contents.{Contents, Framed}
 
 pub framed_same : {P : Type 0} (a : Contents P) → Framed a a

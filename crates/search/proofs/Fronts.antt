@@ -1,18 +1,19 @@
 -- The node that comes first, by the entry that does. Assumes nothing.
-use Rattle.std.proofs.Common.{◌≡◌, refl, sym, ap, subst, ◌∙◌, arith, ℕ, ◌+◌, ◌<◌, ◌≤◌, Bool, true, false, not, cond, List, length, set, slice_get, Some, None, Option}
+use Rattle.std.proofs.Common.{◌≡◌, refl, sym, ap, subst, ◌∙◌, arith, ℕ, ◌≤◌, Bool, true, false, not, cond, List, length, set, slice_get, Some, None, Option}
 use Rattle.std.proofs.lemmas.Option.{slice_get_within, same_Some}
 use Rattle.std.proofs.lemmas.Bool.{true≢false}
-use Rattle.std.specs.Option.{is_some}
+use Rattle.std.specs.Option.{is_some, unwrap_or}
 use Rattle.puzzle.specs.Meaning.{Meaning}
 use Rattle.open_list.specs.Entries as entries
 use Rattle.open_list.specs.Entries.{Entry, Foremost, IsFirst}
 use Rattle.open_list.specs.OpenList.{Open, Closed}
 use Rattle.search_theory.specs.Nodes.{Node, closed, Before, Taken, NoneOpen}
+use Rattle.search_theory.specs.Known.{Found}
 use Rattle.search_theory.specs.Steps.{GoesOn, some_open, none_open}
 use Rattle.search_theory.specs.declared.Verdict.{Verdict}
 use Rattle.search_theory.specs.declared.Verdict.TheVariants.{Running, Unsolvable}
 use Rattle.search.specs.Contents.{node_of, nodes_from}
-use Rattle.search.proofs.Nodes.{some_there, Parts, node_parts, nodes_entry}
+use Rattle.search.proofs.Nodes.{some_there, node_parts, nodes_entry}
 use Rattle.search.proofs.Relaxing.{there, its_entry}
 
 -- only one open entry comes first
@@ -66,9 +67,9 @@ module _ {P : Type 0} (ps : List P) (es : List Entry) (ks ls : List ℕ) where
           there = at;
           is_open = mine.2 ∙ first.is_open;
           first = λ j other other_at other_open.
-            let h = node_parts ps es ks ls j other other_at in
-            let its = its_entry ps es ks ls keyed deep linked j other h.entry other_at h.entry_is in
-            before_as node other first.here h.entry j mine.0 mine.1 its.0 its.1 (first.first j h.entry h.entry_is (sym its.2 ∙ other_open));
+              let h = node_parts ps es ks ls j other other_at in
+              let its = its_entry ps es ks ls keyed deep linked j other h.entry other_at h.entry_is in
+              before_as node other first.here h.entry j mine.0 mine.1 its.0 its.1 (first.first j h.entry h.entry_is (sym its.2 ∙ other_open));
         }
 
     closing_as : (node : Node P) → slice_get (nodes_from ps es ks ls) place ≡ Some node → (e : Entry) → slice_get es place ≡ Some e → nodes_from ps (set es place (entries.closed e)) ks ls ≡ set (nodes_from ps es ks ls) place (closed node)
@@ -106,3 +107,12 @@ module _ {P : Type 0} (m : Meaning P) (capacity : ℕ) (ps : List P) (es : List 
   goes_by None true verdict first test is = none_open (none_open_as ps es ks ls first) is
   goes_by (Some place) true verdict first test is = absurd (true≢false test)
   goes_by None false verdict first test is = absurd (true≢false (sym test))
+
+  -- what is told of every node that is taken is told of the place that comes first
+  pub found_first : (n place : ℕ) (o : Option ℕ) → IsFirst es o → place ≡ unwrap_or o 0 → (NoneOpen (nodes_from ps es ks ls) → ⊥)
+      → ((i : ℕ) (node : Node P) → Taken (nodes_from ps es ks ls) i node → Found m (nodes_from ps es ks ls) n i) → Found m (nodes_from ps es ks ls) n place
+  found_first n place (Some i) first is some found =
+      let p = some_there ps i (let inside = slice_get_within es i first.here first.there in omega arith) in
+      let f = front ps es ks ls keyed deep linked i first p.0 p.1 in
+      subst (λ k. Found m (nodes_from ps es ks ls) n k) (sym is) (found i f.node f.taken)
+  found_first n place None first is some found = absurd (some (none_open_as ps es ks ls first))

@@ -7,3 +7,4 @@ pub mod Fronts
 pub mod Turns
 pub mod Openings
 pub mod Advancing
+pub mod Reciting

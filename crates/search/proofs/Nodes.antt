@@ -1,5 +1,5 @@
 -- The nodes and the parts that they are made of. Assumes nothing.
-use Rattle.std.proofs.Common.{◌≡◌, refl, sym, ap, ◌∙◌, arith, ℕ, zero, suc, ◌+◌, ◌<◌, ◌≤◌, List, [], ◌∷◌, ◌++◌, length, set, slice_get, Some, None}
+use Rattle.std.proofs.Common.{◌≡◌, refl, ap, arith, ℕ, zero, suc, ◌<◌, ◌≤◌, List, [], ◌∷◌, ◌++◌, length, set, slice_get, Some}
 use Rattle.open_list.specs.Entries.{Entry}
 use Rattle.search_theory.specs.Nodes.{Node}
 use Rattle.search.specs.Contents.{node_of, nodes_from}

@@ -1,17 +1,14 @@
 -- How a search opens. Assumes nothing.
-use Rattle.std.proofs.Common.{◌≡◌, refl, sym, ap, subst, ◌∙◌, arith, ℕ, ◌+◌, ◌*◌, ◌<◌, ◌≤◌, Bool, true, false, cond, ◌&&◌, ◌==◌, nat_lt, nat_le, List, [], ◌∷◌, ◌++◌, length, Some, None, Option}
+use Rattle.std.proofs.Common.{◌≡◌, refl, sym, ap, ◌∙◌, ℕ, ◌*◌, ◌<◌, ◌≤◌, Bool, true, false, cond, ◌==◌, nat_lt, nat_le, List, [], ◌∷◌, ◌++◌, length, Some, None}
 use Rattle.std.proofs.lemmas.Bool.{le-leb, lt-ltb, eq-eqb, true≢false}
 use Rattle.std.proofs.lemmas.Option.{same_Some, none-some}
-use Rattle.refusals.specs.declared.Fault.{Fault}
-use Rattle.refusals.specs.declared.Fault.TheVariants.{TableSize, ListSize, AlreadyOpen}
 use Rattle.puzzle.specs.Meaning.{Meaning}
 use Rattle.open_list.specs.Entries.{entry}
 use Rattle.open_list.specs.OpenList as open_list
 use Rattle.hash_index.specs.Index as index
 use Rattle.search_theory.specs.declared.Verdict.TheVariants.{Running, Unsolvable}
-use Rattle.search_theory.specs.Nodes.{Node}
 use Rattle.search_theory.specs.Steps.{State, state, new_node, begun}
-use Rattle.search_theory.specs.Calls.{Search, with_state, unopened, open_refusal}
+use Rattle.search_theory.specs.Calls.{Search, with_state, open_refusal}
 use Rattle.search_theory.proofs.Known.{begun_cases}
 use Rattle.search.specs.Contents.{Contents, node_of, link_of, nodes_of, numbers_of, search_of}
 use Rattle.search.specs.Parts.{Stored}
@@ -51,8 +48,8 @@ module _ {P : Type 0} where
         ∙ ap (λ v. state (new_node m capacity m.game.start 0 0 0 floor ∷ []) v new.steps) (after.1.verdict ∙ runs)
         ∙ ap (λ k. state (new_node m capacity m.game.start 0 0 0 floor ∷ []) Running k) (after.1.steps ∙ zero)
         ∙ begun_cases m capacity (λ t. state (new_node m capacity m.game.start 0 0 0 floor ∷ []) Running 0 ≡ t)
-          (λ other is. ap (λ f. state (new_node m capacity m.game.start 0 0 0 f ∷ []) Running 0) (same_Some floor other (sym alive ∙ is)))
-          (λ dead. absurd (none-some floor (sym dead ∙ alive)))
+        (λ other is. ap (λ f. state (new_node m capacity m.game.start 0 0 0 f ∷ []) Running 0) (same_Some floor other (sym alive ∙ is)))
+        (λ dead. absurd (none-some floor (sym dead ∙ alive)))
     alive_begun old new false p key floor empty some zero runs room after start keyed alive =
         absurd (true≢false (sym (lt-ltb (length (nodes_of old)) old.open_list.capacity (rw empty some)) ∙ sym room))
 

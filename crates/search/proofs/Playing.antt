@@ -1,11 +1,11 @@
 -- What playing a move comes to. Assumes nothing.
-use Rattle.std.proofs.Common.{◌≡◌, refl, sym, ap, subst, ◌∙◌, arith, ℕ, ◌+◌, ◌<◌, ◌≤◌, Bool, true, false, cond, nat_lt, List, [], ◌∷◌, ◌++◌, length, set, slice_get, Some, None, Option}
+use Rattle.std.proofs.Common.{◌≡◌, refl, sym, ap, subst, ◌∙◌, arith, ℕ, ◌+◌, ◌<◌, Bool, true, false, cond, nat_lt, List, [], ◌∷◌, ◌++◌, length, set, slice_get, Some, None, Option}
 use Rattle.std.proofs.lemmas.Bool.{ltb-true, ltb-false, cond-true, cond-false}
-use Rattle.puzzle.specs.Game.{Played, Reached}
+use Rattle.puzzle.specs.Game.{Played}
 use Rattle.puzzle.specs.Meaning.{Meaning}
 use Rattle.open_list.specs.Entries.{entry}
 use Rattle.search_theory.specs.Nodes.{Node, IsNew, reached_again}
-use Rattle.search_theory.specs.Steps.{new_node, MovePlayed, dead_end, no_nearer, nearer, stored, Overflows}
+use Rattle.search_theory.specs.Steps.{new_node, MovePlayed, no_nearer, nearer, stored, Overflows}
 use Rattle.search.specs.Contents.{Contents, node_of, nodes_of, link_of}
 use Rattle.search.specs.Parts.{Finds, Stored, relaxed, Moved}
 use Rattle.search.proofs.Relaxing.{link_parent, link_move}

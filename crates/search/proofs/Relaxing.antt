@@ -1,13 +1,13 @@
 -- A node that is there, and one that was reached again. Assumes nothing.
-use Rattle.std.proofs.Common.{◌≡◌, refl, sym, ap, subst, ◌∙◌, inl, inr, ◌⊎◌, arith, ℕ, ◌+◌, ◌*◌, ◌/◌, ◌%◌, ◌<◌, ◌≤◌, Bool, true, false, cond, nat_lt, List, length, set, slice_get, Some, None, Option}
+use Rattle.std.proofs.Common.{◌≡◌, refl, sym, ap, subst, ◌∙◌, arith, ℕ, ◌/◌, ◌%◌, ◌<◌, ◌≤◌, true, false, nat_lt, List, length, set, slice_get, Some, None, Option}
 use Rattle.std.proofs.lemmas.Bool.{lt-ltb, le-ltb, ltb-true, ltb-false, cond-true, cond-false}
 use Rattle.std.proofs.lemmas.Option.{slice_get_within, same_Some, none-some}
-use Rattle.open_list.specs.Entries.{Entry, closed, reached}
+use Rattle.open_list.specs.Entries.{Entry, reached}
 use Rattle.open_list.specs.OpenList.{is_nearer}
 use Rattle.search_theory.specs.Nodes.{Node, reached_again}
 use Rattle.search.specs.Contents.{link_of, node_of, nodes_from}
 use Rattle.search.specs.Parts.{relaxed}
-use Rattle.search.proofs.Nodes.{some_there, Parts, node_parts, node_there, nodes_set, nodes_entry, length-nodes}
+use Rattle.search.proofs.Nodes.{some_there, node_parts, nodes_set, length-nodes}
 
 pub link_parent : (parent move : ℕ) → move < 256 → link_of parent move / 256 ≡ parent
 link_parent parent move small = omega arith

@@ -1,8 +1,6 @@
 -- What a step comes to once its moves were played. Assumes nothing.
-use Rattle.std.proofs.Common.{◌≡◌, refl, sym, ap, subst, ◌∙◌, ℕ, ◌+◌, ◌<◌, Bool, true, false, List, length, set, slice_get, Some}
+use Rattle.std.proofs.Common.{◌≡◌, refl, sym, ap, subst, ◌∙◌, ℕ, ◌+◌, true, false, List, set, slice_get, Some}
 use Rattle.puzzle.specs.Meaning.{Meaning}
-use Rattle.open_list.specs.Entries.{Entry, Foremost, IsFirst}
-use Rattle.open_list.specs.Entries as entries
 use Rattle.search_theory.specs.declared.Verdict.{Verdict}
 use Rattle.search_theory.specs.declared.Verdict.TheVariants.{Running, TableFull}
 use Rattle.search_theory.specs.Nodes.{Node, closed, Taken}

@@ -1,5 +1,5 @@
 -- What a search holds, and the nodes that this shows. Assumes nothing.
-use Rattle.std.specs.Prelude.{◌≡◌, ℕ, ◌+◌, ◌*◌, ◌/◌, ◌%◌, ◌≤◌, Bool, true, cond, List, [], ◌∷◌, length, Some, None, Option}
+use Rattle.std.specs.Prelude.{◌≡◌, ℕ, ◌+◌, ◌*◌, ◌/◌, ◌%◌, ◌≤◌, Bool, true, cond, List, [], ◌∷◌, length, Some, None}
 use Rattle.open_list.specs.Entries.{Entry}
 use Rattle.open_list.specs.OpenList.{Open}
 use Rattle.hash_index.specs.Index.{Index}

@@ -1,5 +1,5 @@
 -- The search's struct, seen as what it holds. Assumes nothing.
-use Rattle.std.specs.Prelude.{◌≡◌, ℕ}
+use Rattle.std.specs.Prelude.{◌≡◌}
 use Rattle.search.specs.Contents.{Contents, Sound, numbers_of}
 use Rattle.search.specs.declared.search.Search.TheInside.{Inside}
 

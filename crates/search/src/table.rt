@@ -1,5 +1,6 @@
 ghost use Rattle.std.specs.Prelude.{◌≡◌, ◌<◌, length, slice_get, slice_set, Some};
 ghost use Rattle.search.specs.Parts.{SameAt};
+
 use puzzle::Puzzle;
 
 /// The caller's table of positions.
@@ -15,7 +16,12 @@ fn put_in<P: Copy>(places: &mut [P], place: usize, position: P)
     places[place] = position;
 }
 
-fn is_at<P: Copy, Z: Puzzle<Position = P>>(puzzle: &Z, places: &[P], place: usize, position: &P) -> bool
+fn is_at<P: Copy, Z: Puzzle<Position = P>>(
+    puzzle: &Z,
+    places: &[P],
+    place: usize,
+    position: &P,
+) -> bool
     requires { place < length places.now }
     ensures { SameAt (Z.Puzzle.meaning puzzle.now) places.now place position.now result }
 {
@@ -40,7 +46,12 @@ impl<'a, P: Copy> Table<'a, P> {
     }
 
     /// Whether a place holds a position.
-    pub(crate) fn holds<Z: Puzzle<Position = P>>(&self, puzzle: &Z, place: usize, position: &P) -> bool
+    pub(crate) fn holds<Z: Puzzle<Position = P>>(
+        &self,
+        puzzle: &Z,
+        place: usize,
+        position: &P,
+    ) -> bool
         requires { place < length self.now.places.now }
         ensures { SameAt (Z.Puzzle.meaning puzzle.now) self.now.places.now place position.now result }
     {

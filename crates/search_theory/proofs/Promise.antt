@@ -52,6 +52,7 @@ module _ {P : Type 0} (m : Meaning P) where
         room = honest.room;
         unended = steps_left s.places t honest;
         busy = λ runs shut. (let p = says_that m s.places t honest Running runs in true≢false (sym p.is_open ∙ shut p.place p.node p.at));
+        shown = λ n solved. (says_that m s.places t honest (Solved n) solved).some_open;
         found = λ n solved. (says_that m s.places t honest (Solved n) solved).found;
       }
 

@@ -33,5 +33,7 @@ module _ {P : Type 0} (m : Meaning P) where
     pub few : s.places ≤ 1048576
     pub room : length t.nodes ≤ s.places
     pub unended : t.verdict ≡ Running → t.steps < s.places * s.places
+    -- a node is open while the search runs, and when it is solved: the finished one
     pub busy : t.verdict ≡ Running → NoneOpen t.nodes → ⊥
+    pub shown : (n : ℕ) → t.verdict ≡ Solved n → NoneOpen t.nodes → ⊥
     pub found : (n : ℕ) → t.verdict ≡ Solved n → (place : ℕ) (node : Node P) → Taken t.nodes place node → Found t.nodes n place

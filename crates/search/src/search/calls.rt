@@ -21,7 +21,9 @@ const MOST_PLACES: usize = 1_048_576;
 /// How many numbers the list has for each place of the table, and how many of them the open list and the index take; the
 /// last one is for the links.
 const NUMBERS: usize = 8;
+
 const OPEN_LIST_NUMBERS: usize = 4;
+
 const INDEX_NUMBERS: usize = 3;
 
 impl<'a, P: Copy> Search<'a, P> {
@@ -86,7 +88,11 @@ impl<'a, P: Copy> Search<'a, P> {
     ///
     /// Refused where the search has not been opened, or the budget is 0. Handed another puzzle than the opened one, it
     /// ends safely, and its answer is free.
-    pub fn advance<Z: Puzzle<Position = P>>(&mut self, puzzle: &Z, budget: u32) -> Result<Advance, Fault>
+    pub fn advance<Z: Puzzle<Position = P>>(
+        &mut self,
+        puzzle: &Z,
+        budget: u32,
+    ) -> Result<Advance, Fault>
         ensures advances { let m = Z.Puzzle.meaning puzzle.now in Served m (search_of self.old) → Advances m budget (search_of self.old) result (search_of self.new) }
         ensures refused { refusal_in result ≡ advance_refusal (search_of self.old) budget }
         ensures same { OnErr result (self.new ≡ self.old) }
@@ -133,7 +139,11 @@ impl<'a, P: Copy> Search<'a, P> {
     ///
     /// Refused where the search has not been opened, where it is not solved, or where the list is too short. Handed
     /// another puzzle than the opened one, it ends safely, and its answer is free.
-    pub fn solution<Z: Puzzle<Position = P>>(&self, _puzzle: &Z, moves: &mut [u32]) -> Result<usize, Fault>
+    pub fn solution<Z: Puzzle<Position = P>>(
+        &self,
+        _puzzle: &Z,
+        moves: &mut [u32],
+    ) -> Result<usize, Fault>
         ensures recites { let m = Z.Puzzle.meaning _puzzle.now in Served m (search_of self.now) → Recites m (search_of self.now) moves.old result moves.new }
         ensures refused { refusal_in result ≡ recite_refusal (search_of self.now) (length moves.old) }
         ensures same { OnErr result (moves.new ≡ moves.old) }

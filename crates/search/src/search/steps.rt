@@ -92,7 +92,14 @@ impl<'a, P: Copy> Search<'a, P> {
     }
 
     /// Plays a move from the node at a place, and answers whether there was room for where it leads.
-    fn play_move<Z: Puzzle<Position = P>>(&mut self, puzzle: &Z, place: usize, from: &P, depth: u32, number: u32) -> bool
+    fn play_move<Z: Puzzle<Position = P>>(
+        &mut self,
+        puzzle: &Z,
+        place: usize,
+        from: &P,
+        depth: u32,
+        number: u32,
+    ) -> bool
         requires place { place < length self.old.open_list.entries }
         requires few { place < 1048576 }
         requires number { number < Z.Puzzle.MOVES }
@@ -120,7 +127,13 @@ impl<'a, P: Copy> Search<'a, P> {
     }
 
     /// Plays every move from the node at a place, and answers whether there was room.
-    fn expand<Z: Puzzle<Position = P>>(&mut self, puzzle: &Z, place: usize, from: &P, depth: u32) -> bool
+    fn expand<Z: Puzzle<Position = P>>(
+        &mut self,
+        puzzle: &Z,
+        place: usize,
+        from: &P,
+        depth: u32,
+    ) -> bool
         requires place { place < length self.old.open_list.entries }
         requires few { place < 1048576 }
         ensures moves { let m = Z.Puzzle.meaning puzzle.now in (taken : Node P) → slice_get (nodes_of self.old) place ≡ Some (closed taken) → taken.position ≡ from.now → taken.depth ≡ depth → depth < 1048576 → Known m (nodes_of self.old) → Expanded m self.old.open_list.capacity place taken self.old result self.new }

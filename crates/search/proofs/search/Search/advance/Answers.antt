@@ -1,6 +1,6 @@
-use Rattle.std.proofs.Common.{◌≡◌, ◌≤◌, ◌+◌, true, sym, ap, subst, refl, ◌∙◌, arith, add-one, length}
+use Rattle.std.proofs.Common.{◌≡◌, true, sym, ap, subst, refl, ◌∙◌, arith, add-one, length}
 use Rattle.std.proofs.lemmas.Bool.{true≢false}
-use Rattle.search_theory.specs.Steps.{state, Step, Steps, none, next}
+use Rattle.search_theory.specs.Steps.{state, Step, none, next}
 use Rattle.search_theory.specs.declared.Verdict.TheVariants.{Running}
 use Rattle.search_theory.proofs.Promise.{held_steps}
 use Rattle.search.specs.Contents.{nodes_of, search_of}
@@ -19,16 +19,16 @@ loop-steps-preserved g c = record {
   numbers = c.step.ensures.numbers ∙ c.loop-steps.invariant.numbers;
   within = omega arith;
   taken = λ served.
-    let m = g.Z.Puzzle.meaning c.args.puzzle.now in
-    let first = c.args.self.now in
-    let mid = c.loop-steps.self in
-    let new = c.step.new.self in
-    let opened : first.opened ≡ true = rw (← c.self.view_is) c.if-not-self.false in
-    let before = c.loop-steps.invariant.taken served in
-    let held = held_steps m (g.met.Z.Puzzle.lawful c.args.puzzle.now) (search_of first) served (state (nodes_of first) first.verdict first.steps) (state_as first opened) c.loop-steps.steps (state (nodes_of mid) mid.verdict mid.steps) before in
-    let runs : mid.verdict ≡ Running = c.if-is_running.ensures.0 refl in
-    let step = c.step.ensures.steps held.known c.loop-steps.invariant.opened runs (few_steps (length first.table) mid.steps held.few (held.unended runs)) (held.busy runs) in
-    rw add-one (next before (subst (λ n. Step m n (state (nodes_of mid) mid.verdict mid.steps) (state (nodes_of new) new.verdict new.steps)) c.loop-steps.invariant.table step));
+      let m = g.Z.Puzzle.meaning c.args.puzzle.now in
+      let first = c.args.self.now in
+      let mid = c.loop-steps.self in
+      let new = c.step.new.self in
+      let opened : first.opened ≡ true = rw (← c.self.view_is) c.if-not-self.false in
+      let before = c.loop-steps.invariant.taken served in
+      let held = held_steps m (g.met.Z.Puzzle.lawful c.args.puzzle.now) (search_of first) served (state (nodes_of first) first.verdict first.steps) (state_as first opened) c.loop-steps.steps (state (nodes_of mid) mid.verdict mid.steps) before in
+      let runs : mid.verdict ≡ Running = c.if-is_running.ensures.0 refl in
+      let step = c.step.ensures.steps held.known c.loop-steps.invariant.opened runs (few_steps (length first.table) mid.steps held.few (held.unended runs)) (held.busy runs) in
+      rw add-one (next before (subst (λ n. Step m n (state (nodes_of mid) mid.verdict mid.steps) (state (nodes_of new) new.verdict new.steps)) c.loop-steps.invariant.table step));
 }
 
 pub returns-clause-advances : goal.returns-clause-advances

@@ -12,9 +12,9 @@ invariant-loop-steps g l = record {
   numbers : numbers_of l.self ≡ numbers_of l.fn.self;
   within : l.steps ≤ l.budget;
   taken : (
-    let m = g.Z.Puzzle.meaning l.puzzle in
-    Served m (search_of l.fn.self) → Steps m (length l.fn.self.table) (state (nodes_of l.fn.self) l.fn.self.verdict l.fn.self.steps) l.steps (state (nodes_of l.self) l.self.verdict l.self.steps)
-  );
+      let m = g.Z.Puzzle.meaning l.puzzle in
+      Served m (search_of l.fn.self) → Steps m (length l.fn.self.table) (state (nodes_of l.fn.self) l.fn.self.verdict l.fn.self.steps) l.steps (state (nodes_of l.self) l.self.verdict l.self.steps)
+      );
 }
 
 abbrev pub decreases-loop-steps : goal.decreases-loop-steps

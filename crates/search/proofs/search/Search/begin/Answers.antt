@@ -1,4 +1,4 @@
-use Rattle.std.proofs.Common.{◌≡◌, ◌≤◌, [], true, sym, ap, subst, refl, ◌∙◌, arith, length, ◌+◌, ◌<◌, cond, Some, None}
+use Rattle.std.proofs.Common.{◌≡◌, ◌≤◌, [], sym, ap, subst, refl, ◌∙◌, arith, length, ◌+◌, ◌<◌, cond, Some, None}
 use Rattle.open_list.specs.OpenList as open_list
 use Rattle.hash_index.specs.Index as index
 use Rattle.search_theory.specs.Steps.{state, begun}

@@ -10,8 +10,8 @@ abbrev pub invariant-loop-number : goal.invariant-loop-number
 invariant-loop-number g l = record {
   framed : Framed l.fn.self l.self;
   played : (
-    let m = g.Z.Puzzle.meaning l.puzzle in
-    (taken : Node g.row.P.Denot) → slice_get (nodes_of l.fn.self) l.place ≡ Some (closed taken) → taken.position ≡ l.from → taken.depth ≡ l.depth → l.depth < 1048576 → Known m (nodes_of l.fn.self)
-    → MovesPlayed m l.fn.self.open_list.capacity l.place taken (nodes_of l.fn.self) l.number (nodes_of l.self)
-  );
+      let m = g.Z.Puzzle.meaning l.puzzle in
+      (taken : Node g.row.P.Denot) → slice_get (nodes_of l.fn.self) l.place ≡ Some (closed taken) → taken.position ≡ l.from → taken.depth ≡ l.depth → l.depth < 1048576 → Known m (nodes_of l.fn.self)
+      → MovesPlayed m l.fn.self.open_list.capacity l.place taken (nodes_of l.fn.self) l.number (nodes_of l.self)
+      );
 }

@@ -1,8 +1,5 @@
-use Rattle.std.proofs.Common.{◌≡◌, ◌<◌, sym, ap, subst, rules, arith, length, slice_get, Some, IfSome}
+use Rattle.std.proofs.Common.{◌<◌, arith, length}
 use Rattle.std.proofs.lemmas.Option.{slice_get_within}
-use Rattle.puzzle.specs.Game.{Reached}
-use Rattle.search_theory.specs.Nodes.{Node}
-use Rattle.search_theory.specs.Known.{Known}
 use Rattle.search.specs.Contents.{nodes_of}
 use Rattle.search.proofs.Finding.{key_at, last_has_key, earlier_last, last_fewer, left_at, left_none, left_first, left_next, holds_it, holds_other}
 use Rattle.search.proofs.Relaxing.{there}
@@ -37,8 +34,8 @@ returns-then-holds-clause-finds g c =
     let inside : c.in-Some.place < length c.self.inside.index.keys = slice_get_within _ _ _ at in
     let within : c.in-Some.place < length c.self.inside.open_list.entries = omega (arith, h.keyed) in
     rw (← c.self.view_is) (λ known reached key.
-      let found = there c.self.inside.table.places.now c.self.inside.open_list.entries c.self.inside.index.keys c.self.inside.links.numbers.now h.keyed (omega arith) (omega arith) c.in-Some.place within in
-      (found.0, found.1, holds_it m _ _ _ _ _ (g.met.Z.Puzzle.lawful c.args.puzzle.now) known reached c.in-Some.place c.holds.result c.holds.ensures c.if-holds.true found.0 found.1))
+    let found = there c.self.inside.table.places.now c.self.inside.open_list.entries c.self.inside.index.keys c.self.inside.links.numbers.now h.keyed (omega arith) (omega arith) c.in-Some.place within in
+    (found.0, found.1, holds_it m _ _ _ _ _ (g.met.Z.Puzzle.lawful c.args.puzzle.now) known reached c.in-Some.place c.holds.result c.holds.ensures c.if-holds.true found.0 found.1))
 
 pub loop-candidate-smaller : goal.loop-candidate-smaller
 loop-candidate-smaller g c =
@@ -56,9 +53,9 @@ loop-candidate-preserved g c =
     rw (← c.self.view_is) (record {
       keyed = last_has_key _ _ _ c.earlier-candidate.result last;
       left = λ known reached key.
-        left_next m _ _ _ _ _ known c.args.key key c.in-Some.place c.earlier-candidate.result
-        (left_at m _ _ _ _ _ known c.args.key key c.loop-candidate.candidate c.in-Some.place (left known reached key) c.in-Some.is) last
-        (holds_other m _ _ _ _ _ (g.met.Z.Puzzle.lawful c.args.puzzle.now) known reached c.in-Some.place c.holds.result c.holds.ensures c.if-holds.false);
+          left_next m _ _ _ _ _ known c.args.key key c.in-Some.place c.earlier-candidate.result
+          (left_at m _ _ _ _ _ known c.args.key key c.loop-candidate.candidate c.in-Some.place (left known reached key) c.in-Some.is) last
+          (holds_other m _ _ _ _ _ (g.met.Z.Puzzle.lawful c.args.puzzle.now) known reached c.in-Some.place c.holds.result c.holds.ensures c.if-holds.false);
     })
 
 pub returns-clause-finds : goal.returns-clause-finds

@@ -10,9 +10,9 @@ abbrev pub invariant-loop-candidate : goal.invariant-loop-candidate
 invariant-loop-candidate g l = record {
   keyed : HasKey l.self.index.keys l.key l.candidate;
   left : (
-    let m = g.Z.Puzzle.meaning l.puzzle in
-    Known m (nodes_of l.self) → Reached m.game l.position → l.key ≡ m.key l.position → Left m l.self.table l.self.open_list.entries l.self.index.keys l.self.links l.position l.candidate
-  );
+      let m = g.Z.Puzzle.meaning l.puzzle in
+      Known m (nodes_of l.self) → Reached m.game l.position → l.key ≡ m.key l.position → Left m l.self.table l.self.open_list.entries l.self.index.keys l.self.links l.position l.candidate
+      );
 }
 
 abbrev pub decreases-loop-candidate : goal.decreases-loop-candidate

@@ -1,4 +1,4 @@
-use Rattle.std.proofs.Common.{◌≡◌, ◌<◌, ◌+◌, true, false, sym, ap, subst, refl, ◌∙◌, arith, rules, length, Some, None}
+use Rattle.std.proofs.Common.{◌≡◌, ◌<◌, ◌+◌, sym, ap, subst, refl, ◌∙◌, arith}
 use Rattle.puzzle.specs.Game.{Reached}
 use Rattle.search_theory.proofs.Known.{reached_more}
 use Rattle.search_theory.specs.Nodes.{closed}

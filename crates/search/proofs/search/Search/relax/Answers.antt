@@ -1,7 +1,7 @@
-use Rattle.std.proofs.Common.{◌≡◌, sym, ap, subst, refl, ◌∙◌, arith, length, slice_get, set, Some}
+use Rattle.std.proofs.Common.{sym, ap, subst, refl, ◌∙◌, arith, slice_get, set}
 use Rattle.open_list.specs.Entries.{reached}
-use Rattle.open_list.specs.OpenList.{is_nearer, Reached}
-use Rattle.search.specs.Contents.{nodes_of, nodes_from, link_of}
+use Rattle.open_list.specs.OpenList.{Reached}
+use Rattle.search.specs.Contents.{nodes_of, nodes_from}
 use Rattle.search.proofs.Relaxing.{relaxed_then, relaxed_else}
 use Rattle.search.proofs.search.Search.relax.Goals as goal
 
@@ -18,9 +18,9 @@ returns-then-reach-clause-after g c =
     let after = subst (λ b. Reached place reach.depth old b c.reach.new.self) c.if-reach.true c.reach.ensures.after in
     let nearer = sym c.reach.ensures.nearer ∙ c.if-reach.true in
     rw (← c.self.view_is) (
-      ap (λ es. nodes_from ps es ks c.put.new.self.numbers.now) after.2.entries
-      ∙ ap (λ l. nodes_from ps (set old.entries place (reached after.0 reach.depth)) ks l) c.put.ensures
-      ∙ relaxed_then ps old.entries ks ls h.keyed (omega arith) (omega arith) place reach.depth reach.parent reach.number after.0 c.requires.number after.1 nearer
+    ap (λ es. nodes_from ps es ks c.put.new.self.numbers.now) after.2.entries
+    ∙ ap (λ l. nodes_from ps (set old.entries place (reached after.0 reach.depth)) ks l) c.put.ensures
+    ∙ relaxed_then ps old.entries ks ls h.keyed (omega arith) (omega arith) place reach.depth reach.parent reach.number after.0 c.requires.number after.1 nearer
     )
 
 pub returns-else-reach-clause-after : goal.returns-else-reach-clause-after
@@ -36,6 +36,6 @@ returns-else-reach-clause-after g c =
     let after = subst (λ b. Reached place reach.depth old b c.reach.new.self) c.if-reach.false c.reach.ensures.after in
     let further = sym c.reach.ensures.nearer ∙ c.if-reach.false in
     rw (← c.self.view_is) (
-      ap (λ o. nodes_from ps (o.entries) ks ls) after
-      ∙ relaxed_else ps old.entries ks ls h.keyed (omega arith) (omega arith) place reach.depth reach.parent reach.number (slice_get old.entries place) (slice_get (nodes_from ps old.entries ks ls) place) refl refl further
+    ap (λ o. nodes_from ps (o.entries) ks ls) after
+    ∙ relaxed_else ps old.entries ks ls h.keyed (omega arith) (omega arith) place reach.depth reach.parent reach.number (slice_get old.entries place) (slice_get (nodes_from ps old.entries ks ls) place) refl refl further
     )

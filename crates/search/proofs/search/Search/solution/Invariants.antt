@@ -1,12 +1,18 @@
-use Rattle.std.proofs.Common.{◌≡◌, length, OnErr, ℕ, ◌+◌, ◌-◌, ◌*◌, ◌<◌, ◌≤◌}
-use Rattle.search.specs.Contents.{search_of}
-use Rattle.search_theory.specs.Calls.{new_search, Opens, Served, Advances, advance_refusal, Reports, Recites, recite_refusal, refusal_in}
-use Rattle.search_theory.specs.Promise.{Promise}
+use Rattle.std.proofs.Common.{◌≤◌}
+use Rattle.search_theory.specs.Calls.{Served}
+use Rattle.search.specs.Contents.{nodes_of, search_of}
+use Rattle.search.proofs.Reciting.{Reciting}
 use Rattle.search.proofs.search.Search.solution.Given as goal
 
+-- the moves from `left` on are written
 abbrev pub invariant-loop-left : goal.invariant-loop-left
-invariant-loop-left g l = ?
+invariant-loop-left g l = record {
+  within : l.left ≤ l.count;
+  reciting : (
+      let m = g.Z.Puzzle.meaning l._puzzle in
+      Served m (search_of l.self) → Reciting m (nodes_of l.self) l.place l.left l.count l.fn.moves l.moves
+      );
+}
 
--- proposed from the loop's first test
 abbrev pub decreases-loop-left : goal.decreases-loop-left
 decreases-loop-left g l = l.left

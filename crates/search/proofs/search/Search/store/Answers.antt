@@ -1,4 +1,4 @@
-use Rattle.std.proofs.Common.{◌≡◌, ◌<◌, ◌+◌, ◌++◌, ◌∷◌, [], true, nat_lt, sym, ap, subst, refl, ◌∙◌, rules, arith, length, length-set, length-append, set, Some}
+use Rattle.std.proofs.Common.{◌≡◌, ◌<◌, ◌++◌, ◌∷◌, [], true, sym, ap, subst, refl, ◌∙◌, arith, length, length-set, length-append, set}
 use Rattle.std.proofs.lemmas.Bool.{ltb-true, lt-ltb}
 use Rattle.open_list.specs.Entries.{entry}
 use Rattle.open_list.specs.OpenList as open_list
@@ -39,18 +39,18 @@ returns-clause-after g c =
     let links = c.put-2.ensures ∙ ap (λ i. set ls i link) place in
     rw (← c.self.view_is) (
       (
-        ap (λ xs. nodes_from xs c.push.new.self.entries c.push-2.new.self.keys c.put-2.new.self.numbers.now) table
-        ∙ ap (λ xs. nodes_from (set ps (length es) c.args.position) xs c.push-2.new.self.keys c.put-2.new.self.numbers.now) pushed.entries
-        ∙ ap (λ xs. nodes_from (set ps (length es) c.args.position) (es ++ (e ∷ [])) xs c.put-2.new.self.numbers.now) key_pushed.keys
-        ∙ ap (λ xs. nodes_from (set ps (length es) c.args.position) (es ++ (e ∷ [])) (ks ++ (c.args.key ∷ [])) xs) links
-        ∙ nodes_push ps es ks ls c.args.position e c.args.key link h.keyed (omega (arith, h.deep)) (omega (arith, h.linked))
-      ),
+          ap (λ xs. nodes_from xs c.push.new.self.entries c.push-2.new.self.keys c.put-2.new.self.numbers.now) table
+          ∙ ap (λ xs. nodes_from (set ps (length es) c.args.position) xs c.push-2.new.self.keys c.put-2.new.self.numbers.now) pushed.entries
+          ∙ ap (λ xs. nodes_from (set ps (length es) c.args.position) (es ++ (e ∷ [])) xs c.put-2.new.self.numbers.now) key_pushed.keys
+          ∙ ap (λ xs. nodes_from (set ps (length es) c.args.position) (es ++ (e ∷ [])) (ks ++ (c.args.key ∷ [])) xs) links
+          ∙ nodes_push ps es ks ls c.args.position e c.args.key link h.keyed (omega (arith, h.deep)) (omega (arith, h.linked))
+          ),
       record {
         table = ap length c.put.ensures ∙ length-set ps _ c.args.position;
         numbers = (
-          let link_numbers : length c.put-2.new.self.numbers.now ≡ length ls = ap length c.put-2.ensures ∙ length-set ls _ link in
-          omega (arith, pushed.numbers, key_pushed.numbers)
-        );
+            let link_numbers : length c.put-2.new.self.numbers.now ≡ length ls = ap length c.put-2.ensures ∙ length-set ls _ link in
+            omega (arith, pushed.numbers, key_pushed.numbers)
+            );
         capacity = pushed.capacity;
         longer = simp (pushed.entries, length-append) (omega arith);
         opened = refl;

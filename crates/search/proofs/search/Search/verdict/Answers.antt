@@ -1,4 +1,4 @@
-use Rattle.std.proofs.Common.{◌≡◌, sym, ap, refl, ◌∙◌, rules, arith}
+use Rattle.std.proofs.Common.{sym, ap, refl, ◌∙◌, arith}
 use Rattle.search_theory.specs.Steps.{state}
 use Rattle.search.specs.Contents.{nodes_of, nodes_from}
 use Rattle.search.proofs.Nodes.{length-nodes}
