@@ -1,2 +1,3 @@
 pub mod Game
+pub mod Gentle
 pub mod Meaning
