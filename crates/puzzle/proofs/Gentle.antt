@@ -1,5 +1,5 @@
 -- A bound that one move lowers by at most one is at most the length of every way to the finish. Assumes nothing.
-use Rattle.std.proofs.Common.{◌≡◌, ℕ, suc, ◌≤◌, true, List, [], ◌∷◌, length, Some, None, Option, refl, arith}
+use Rattle.std.proofs.Common.{◌≡◌, ℕ, suc, ◌≤◌, true, List, [], ◌∷◌, length, Some, None, Option, refl, arith, ap, ◌∙◌, ◌+◌}
 use Rattle.puzzle.specs.Game.{Plays, Reached, here, then}
 use Rattle.puzzle.specs.Meaning.{Meaning, Finishes}
 use Rattle.puzzle.specs.Gentle.{Gentle, Move}
@@ -31,3 +31,16 @@ module _ {P : Type 0} (m : Meaning P) (gentle : Gentle m) where
 
   pub gentle_dead : (p : P) → Reached m.game p → m.lower_bound p ≡ None → (moves : List ℕ) → Finishes m p moves → ⊥
   gentle_dead p reached is moves way = rw is at (admits p moves reached way)
+
+-- no position is dead, and a number that one move lowers by at most one is the bound of each
+module _ {P : Type 0} (m : Meaning P) (far : P → ℕ) (is : (p : P) → m.lower_bound p ≡ Some (far p)) where
+  pub gentle_far : ((p : P) → m.game.finished p ≡ true → far p ≡ 0) → ((p q : P) → Move m p q → far p ≤ far q + 1) → Gentle m
+  gentle_far done slow = record {
+    done = λ p _ finished. is p ∙ ap Some (done p finished);
+    slow = λ p q move a b before after.
+        let one : far p ≡ a = cc (is p) in
+        let other : far q ≡ b = cc (is q) in
+        let less = slow p q move in
+        omega arith;
+    dead = λ p q _ never. absurd (cc (is p));
+  }

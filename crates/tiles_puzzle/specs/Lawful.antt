@@ -1,10 +1,10 @@
 -- One move lowers the distance by at most one, so it is at most the length of every way to the finish. Assumes nothing.
-use Rattle.std.specs.Prelude.{◌≡◌, ℕ, ◌+◌, ◌*◌, ◌≤◌, Some}
-use Rattle.std.proofs.Common.{ap, arith}
+use Rattle.std.specs.Prelude.{ℕ, ◌+◌, ◌*◌, ◌≤◌}
+use Rattle.std.proofs.Common.{refl, ap, arith}
 use Rattle.std.proofs.lemmas.Bool.{eqb-true, eq-eqb}
 use Rattle.puzzle.specs.Meaning.{Lawful}
 use Rattle.puzzle.specs.Gentle.{Move, Gentle}
-use Rattle.puzzle.proofs.Gentle.{gentle_bounded, gentle_dead}
+use Rattle.puzzle.proofs.Gentle.{gentle_far, gentle_bounded, gentle_dead}
 use Rattle.grid.proofs.Laws.{steps_on}
 use Rattle.tiles.specs.declared.level.TileLevel.{TileLevel}
 use Rattle.tiles.specs.Board.{unpacked}
@@ -28,11 +28,11 @@ slow l few p q move =
     omega arith
 
 pub gentle : (l : TileLevel) → Gentle (meaning (tiles l))
-gentle l = record {
-  done = λ p _ finished. ap Some (all_home l.grid.width (l.grid.width * l.grid.height) 0 (unpacked (l.grid.width * l.grid.height) p) finished);
-  slow = λ p q move a b before after. let less = slow (tiles l) (few_cells _ _ l.wide.1 l.high.1) p q move in let from : manhattan (tiles l) p ≡ a = cc in let to : manhattan (tiles l) q ≡ b = cc in omega arith;
-  dead = λ p q move before. absurd (cc);
-}
+gentle l =
+    let n = l.grid.width * l.grid.height in
+    gentle_far (meaning (tiles l)) (manhattan (tiles l)) (λ _. refl)
+    (λ p finished. all_home l.grid.width n 0 (unpacked n p) finished)
+    (slow (tiles l) (few_cells _ _ l.wide.1 l.high.1))
 
 pub lawful : (l : TileLevel) → Lawful (meaning (tiles l))
 lawful l = record {
