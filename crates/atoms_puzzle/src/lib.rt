@@ -57,3 +57,6 @@ impl Puzzle for BareAtomPuzzle {
         one == other
     }
 }
+
+#[cfg(test)]
+mod tests;

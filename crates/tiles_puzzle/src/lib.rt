@@ -117,3 +117,6 @@ impl Puzzle for TilePuzzle {
         one == other
     }
 }
+
+#[cfg(test)]
+mod tests;
