@@ -8,10 +8,7 @@ ghost use Rattle.atoms_puzzle.specs.Lawful;
 
 use atoms::{AtomLevel, Position};
 use grid::Direction;
-use puzzle::Puzzle;
-
-/// 2 ^ 64 over the golden ratio: its multiples spread well.
-const SPREAD: u64 = 0x9E37_79B9_7F4A_7C15;
+use puzzle::{Puzzle, key_of, mix};
 
 /// An atom level, as a search without a bound sees it.
 #[derive(Clone, Copy, Debug)]
@@ -47,10 +44,8 @@ impl Puzzle for BareAtomPuzzle {
     }
 
     fn key(&self, at: &Position) -> u32 {
-        let mixed = at.cells.iter().fold(0, |mixed: u64, cell| {
-            mixed.wrapping_add(u64::from(*cell)).wrapping_mul(SPREAD)
-        });
-        (mixed >> 32) as u32
+        let cells = at.cells.iter();
+        key_of(cells.fold(0, |sum, cell| mix(sum, u64::from(*cell))))
     }
 
     fn is_same(&self, one: &Position, other: &Position) -> bool {

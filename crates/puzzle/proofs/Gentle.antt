@@ -1,5 +1,5 @@
 -- A bound that one move lowers by at most one is at most the length of every way to the finish. Assumes nothing.
-use Rattle.std.proofs.Common.{◌≡◌, ℕ, suc, ◌≤◌, true, List, [], ◌∷◌, length, Some, None, Option, refl, arith, ap, ◌∙◌, ◌+◌}
+use Rattle.std.proofs.Common.{◌≡◌, ℕ, suc, ◌+◌, ◌≤◌, true, List, [], ◌∷◌, length, Some, None, Option, refl, ap, ◌∙◌, arith}
 use Rattle.puzzle.specs.Game.{Plays, Reached, here, then}
 use Rattle.puzzle.specs.Meaning.{Meaning, Finishes}
 use Rattle.puzzle.specs.Gentle.{Gentle, Move}

@@ -1,3 +1,4 @@
 pub mod Game
-pub mod Gentle
 pub mod Meaning
+pub mod Gentle
+pub mod Keys

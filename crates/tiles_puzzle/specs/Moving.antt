@@ -23,57 +23,49 @@ pub all_home : (w n i : ℕ) (ts : List ℕ) → home_from n i ts ≡ true → a
 all_home w n i [] at_home = refl
 all_home w n i (t ∷ ts) at_home =
     let both = and_parts _ _ at_home in
-    let here = eqb-true t (home n i) (both.0) in
-    let rest = all_home w n (i + 1) ts (both.1) in
+    let here = eqb-true t (home n i) both.0 in
+    let rest = all_home w n (i + 1) ts both.1 in
     let near : way_home w i t ≡ 0 = ap (way_home w i) here ∙ home_near w n i in
     omega arith
 
--- the row and the column of a cell
-at_row : (w r c t : ℕ) → c < w → t ≡ r * w + c → t / w ≡ r
-at_row w r c t low is = ap (λ k. k / w) is ∙ div-mul-add r w c low
+-- how far the cell at a row and a column is from another
+steps_to : (w r c t b : ℕ) → c < w → t ≡ r * w + c → steps w t b ≡ abs_diff r (b / w) + abs_diff c (b % w)
+steps_to w r c t b low is =
+    let row : t / w ≡ r = ap (λ k. k / w) is ∙ div-mul-add r w c low in
+    let column : t % w ≡ c = ap (λ k. k % w) is ∙ mod-mul-add r w c low in
+    rw (row, column)
 
-at_column : (w r c t : ℕ) → c < w → t ≡ r * w + c → t % w ≡ c
-at_column w r c t low is = ap (λ k. k % w) is ∙ mod-mul-add r w c low
-
+-- a board with a cell has columns
 some_wide : (w h b : ℕ) → b < w * h → 0 < w
 some_wide zero h b on = absurd (omega arith)
 some_wide (suc w) h b on = omega arith
 
+column_below : (w h b t : ℕ) (d : Direction) → neighbour w h b d ≡ Some t → b % w < w
+column_below w h b t d e = let on : b < w * h = grind (arith, nat_tests) in mod_below b w (some_wide w h b on)
+
+-- the cell beside is one step away
 pub beside_near : (w h b t : ℕ) (d : Direction) → neighbour w h b d ≡ Some t → steps w t b ≡ 1
 beside_near w h b t Up e =
-    let on : b < w * h = grind (arith, nat_tests) in
     let some : 0 < b / w = grind (arith, nat_tests) in
     let is : t ≡ (b / w - 1) * w + b % w = grind (arith, nat_tests) in
-    let low = mod_below b w (some_wide w h b on) in
-    let row = at_row w (b / w - 1) (b % w) t low is in
-    let column = at_column w (b / w - 1) (b % w) t low is in
-    omega arith
+    omega (arith, steps_to w (b / w - 1) (b % w) t b (column_below w h b t Up e) is)
 beside_near w h b t Down e =
-    let on : b < w * h = grind (arith, nat_tests) in
     let is : t ≡ (b / w + 1) * w + b % w = grind (arith, nat_tests) in
-    let low = mod_below b w (some_wide w h b on) in
-    let row = at_row w (b / w + 1) (b % w) t low is in
-    let column = at_column w (b / w + 1) (b % w) t low is in
-    omega arith
+    omega (arith, steps_to w (b / w + 1) (b % w) t b (column_below w h b t Down e) is)
 beside_near w h b t Left e =
-    let on : b < w * h = grind (arith, nat_tests) in
     let some : 0 < b % w = grind (arith, nat_tests) in
     let is : t ≡ b / w * w + (b % w - 1) = grind (arith, nat_tests) in
-    let low = mod_below b w (some_wide w h b on) in
-    let row = at_row w (b / w) (b % w - 1) t (omega arith) is in
-    let column = at_column w (b / w) (b % w - 1) t (omega arith) is in
-    omega arith
+    omega (arith, steps_to w (b / w) (b % w - 1) t b (omega (arith, column_below w h b t Left e)) is)
 beside_near w h b t Right e =
     let more : b % w + 1 < w = grind (arith, nat_tests) in
     let is : t ≡ b / w * w + (b % w + 1) = grind (arith, nat_tests) in
-    let row = at_row w (b / w) (b % w + 1) t more is in
-    let column = at_column w (b / w) (b % w + 1) t more is in
-    omega arith
+    omega (arith, steps_to w (b / w) (b % w + 1) t b more is)
 
--- from the cell beside, home is one step farther at most
+-- not nearer by way of a third
 between : (a b c : ℕ) → abs_diff a c ≤ abs_diff a b + abs_diff b c
 between a b c = omega arith
 
+-- from the cell beside, home is one step farther at most
 way_beside : (w b t v : ℕ) → steps w t b ≡ 1 → way_home w t v ≤ way_home w b v + 1
 way_beside w b t zero near = omega arith
 way_beside w b t (suc v) near = omega (arith, between (t / w) (b / w) (v / w), between (t % w) (b % w) (v % w))

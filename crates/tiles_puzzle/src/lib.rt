@@ -4,18 +4,15 @@
 ghost use Rattle.std.specs.Prelude.{◌≡◌, ◌<◌, refl};
 ghost use Rattle.tiles.specs.Level.{tiles};
 ghost use Rattle.tiles_puzzle.specs.Distances.{way_home, MeasuredOn, Measured, manhattan};
-ghost use Rattle.tiles_puzzle.specs.Meaning.{meaning, key};
+ghost use Rattle.tiles_puzzle.specs.Meaning.{meaning};
 ghost use Rattle.tiles_puzzle.specs.Lawful;
 
 use grid::Direction;
-use puzzle::Puzzle;
+use puzzle::{Puzzle, key_of, mix};
 use tiles::{BITS_PER_CELL, CELL_MASK, TileLevel};
 
 /// The most cells that a board has, and the most tiles, the blank counted.
 const MOST_CELLS: usize = 16;
-
-/// 2 ^ 64 over the golden ratio: its multiples spread well.
-const SPREAD: u64 = 0x9E37_79B9_7F4A_7C15;
 
 /// A tile level, as a search sees it.
 #[derive(Clone, Copy, Debug)]
@@ -110,7 +107,7 @@ impl Puzzle for TilePuzzle {
     }
 
     fn key(&self, at: &u64) -> u32 {
-        (at.wrapping_mul(SPREAD) >> 32) as u32
+        key_of(mix(0, *at))
     }
 
     fn is_same(&self, one: &u64, other: &u64) -> bool {
