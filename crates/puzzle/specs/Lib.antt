@@ -1,2 +1,4 @@
 pub mod Game
 pub mod Meaning
+pub mod Gentle
+pub mod Keys

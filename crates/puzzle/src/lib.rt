@@ -2,6 +2,8 @@
 //! puzzle has to show before it is searched.
 #![tactic(auto)]
 
+mod keys;
 mod puzzle;
 
+pub use keys::{key_of, mix};
 pub use puzzle::Puzzle;

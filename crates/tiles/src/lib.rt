@@ -5,4 +5,4 @@ mod level;
 mod position;
 
 pub use level::{TileLevel, is_side};
-pub use position::BITS_PER_CELL;
+pub use position::{BITS_PER_CELL, CELL_MASK};

@@ -4,8 +4,9 @@ ghost use Rattle.tiles.specs.Board.{packed, unpacked, cells, swapped, Numbered};
 
 /// How many bits of a position a cell takes.
 pub const BITS_PER_CELL: usize = 4;
-// The bits of the lowest cell.
-const CELL_MASK: u64 = 0xF;
+
+/// The bits of a position's lowest cell.
+pub const CELL_MASK: u64 = 0xF;
 
 /// The used cells of a position in reading order: what lies on each.
 #[derive(Debug, Drop)]

@@ -1,0 +1,4 @@
+pub mod Distances
+pub mod Meaning
+pub mod Moving
+pub mod Lawful
