@@ -1,8 +1,10 @@
 //! Searches of levels and of a small graph, with what they say. The crate is there for its tests.
 #![tactic(auto)]
 
+#[cfg(test)]
+mod calls;
 mod graph;
 #[cfg(test)]
-mod level_searches;
+mod said;
 #[cfg(test)]
-mod memory;
+mod searches;
