@@ -2,9 +2,11 @@
 #![tactic(auto)]
 
 #[cfg(test)]
-mod calls;
+mod call_cases;
 mod graph;
 #[cfg(test)]
-mod said;
+mod graph_cases;
 #[cfg(test)]
-mod searches;
+mod level_cases;
+#[cfg(test)]
+mod said;

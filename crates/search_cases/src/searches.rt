@@ -1,1 +1,0 @@
-//! Whole searches.
