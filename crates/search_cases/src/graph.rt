@@ -43,6 +43,7 @@ impl Spot {
         }
     }
 
+    // How far it is to the room at least; none where it is known that no moves lead there.
     fn bound(self) -> Option<u16>
         ensures { result ≡ bound self }
     {
@@ -99,6 +100,7 @@ impl Puzzle for Graph {
         at.bound()
     }
 
+    // One key for all, so that spots are told apart by `is_same` alone.
     fn key(&self, _at: &Spot) -> u32 {
         0
     }

@@ -81,7 +81,11 @@ pub(crate) fn answers_so<Z: Puzzle>(
         let mut list = [UNTOUCHED; ROOM];
         let said = respond(search, puzzle, *call, &mut list).map_err(u32::from);
         assert_eq!(rt; said, *due, "{call:?}");
-        let written = if matches!(said, Ok(Answer::Wrote(_))) { moves } else { &[] };
+        let written = if matches!(said, Ok(Answer::Wrote(_))) {
+            moves
+        } else {
+            &[]
+        };
         assert!(rt; holds(&list, written), "{call:?}");
     }
 }
@@ -148,10 +152,24 @@ pub(crate) fn bears<Z: Puzzle>(
     let mut search = Search::new(table, &mut numbers[..NUMBERS * places.min(ROOM)]);
     assert!(rt; search.open(opened).is_ok(), "{name}");
     for budget in 0..ROOM as u32 {
-        assert_eq!(rt; search.advance(handed, budget).is_ok(), budget > 0, "{name}");
+        assert_eq!(rt;
+            search.advance(handed, budget).is_ok(),
+            budget > 0,
+            "{name}"
+        );
         assert!(rt; search.verdict().is_ok(), "{name}");
         let mut list = [UNTOUCHED; ROOM];
-        let solved = matches!(search.verdict(), Ok(Report { verdict: Verdict::Solved(_), .. }));
-        assert_eq!(rt; search.solution(handed, &mut list).is_ok(), solved, "{name}");
+        let solved = matches!(
+            search.verdict(),
+            Ok(Report {
+                verdict: Verdict::Solved(_),
+                ..
+            })
+        );
+        assert_eq!(rt;
+            search.solution(handed, &mut list).is_ok(),
+            solved,
+            "{name}"
+        );
     }
 }
