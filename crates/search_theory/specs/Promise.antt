@@ -44,6 +44,8 @@ module _ {P : Type 0} (m : Meaning P) where
     pub shortest : (n : ℕ) → t.verdict ≡ Solved n → (moves : List ℕ) → Finishes m m.game.start moves → n ≤ length moves
     pub recited : (n : ℕ) → t.verdict ≡ Solved n → (before after : List ℕ) (answer : Result ℕ Fault) → Recites m s before answer after → n ≤ length before
         → (answer ≡ Ok n) × RecitesWay m n before after
+    -- they are fewer than the table has places
+    pub short : (n : ℕ) → t.verdict ≡ Solved n → n < s.places
     -- unsolvable: no legal moves finish
     pub unsolvable : t.verdict ≡ Unsolvable → (moves : List ℕ) → Finishes m m.game.start moves → ⊥
     -- table full: more positions can be reached than there are places
