@@ -1,5 +1,5 @@
 -- A search that is opened and advanced once, to its end. Assumes nothing.
-use Rattle.std.proofs.Common.{◌≡◌, refl, sym, ap, subst, ◌∙◌, arith, ℕ, ◌+◌, ◌*◌, ◌<◌, ◌≤◌, List, [], ◌∷◌, length, Some, None, Ok, Err, Result, Option}
+use Rattle.std.proofs.Common.{◌≡◌, refl, sym, ap, subst, ◌∙◌, arith, ℕ, ◌+◌, ◌*◌, ◌<◌, ◌≤◌, List, [], ◌∷◌, Some, None, Ok, Err, Result}
 use Rattle.std.specs.Result.{IsOk}
 use Rattle.std.proofs.lemmas.Option.{same_Some, none-some}
 use Rattle.refusals.specs.declared.Fault.{Fault}
@@ -8,7 +8,7 @@ use Rattle.search_theory.specs.declared.Verdict.{Verdict}
 use Rattle.search_theory.specs.declared.Verdict.TheVariants.{Running, Solved, Unsolvable, TableFull}
 use Rattle.search_theory.specs.declared.Advance.{Advance}
 use Rattle.search_theory.specs.Steps.{State}
-use Rattle.search_theory.specs.Calls.{Search, new_search, with_state, refusal_in, recite_refusal, Opens, Advances, AdvancesBy, Recites, RecitesWay, Call, opening, advance, Run, none, then, Served}
+use Rattle.search_theory.specs.Calls.{Search, new_search, refusal_in, recite_refusal, Opens, Advances, AdvancesBy, Recites, Call, opening, advance, Run, none, then, Served}
 use Rattle.search_theory.specs.Promise.{Right, Promise, CanReach}
 use Rattle.search.proofs.Reciting.{may_recite}
 use Rattle.answers.specs.declared.solving.Found.TheVariants.{Way}

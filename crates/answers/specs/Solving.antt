@@ -1,6 +1,5 @@
 -- What the search found, and the answer that tells it. Assumes nothing.
 use Rattle.std.specs.Prelude.{◌≡◌, ℕ, ◌+◌, ◌<◌, ◌≤◌, List, length, Ok}
-use Rattle.puzzle.specs.Game.{Game}
 use Rattle.puzzle.specs.Meaning.{Meaning, Finishes}
 use Rattle.search_theory.specs.Calls.{RecitesWay}
 use Rattle.search_theory.specs.Promise.{CanReach}

@@ -2,7 +2,7 @@
 //! text is no level.
 #![tactic(auto)]
 
-ghost use Rattle.std.specs.Prelude.{◌≡◌, IfOk};
+ghost use Rattle.std.specs.Prelude.{◌≡◌, length, IfOk};
 ghost use Rattle.answers.specs.Answers.{Answers};
 ghost use Rattle.answers.specs.Solving.{Tells};
 
@@ -36,19 +36,41 @@ fn bytes_of(heap: Global, text: &[u8]) -> Result<Vec<u8>, AllocError>
     Ok(bytes)
 }
 
-// The answer for a level, whose ways are written as its kind says.
-fn answer_level<P: Copy, Z: Puzzle<Position = P>, K: Kind<Position = P>>(heap: Global, puzzle: &Z, kind: &K) -> Result<Vec<u8>, AllocError>
+// The answer for a level, whose ways are written as its kind says, with memory for the search.
+fn answer_with<P: Copy, Z: Puzzle<Position = P>, K: Kind<Position = P>>(
+    heap: Global,
+    puzzle: &Z,
+    kind: &K,
+    table: &mut [P],
+    numbers: &mut [u32],
+    moves: &mut [u32],
+) -> Result<Vec<u8>, AllocError>
+    requires same { (K.Kind.notation kind.now).game ≡ (Z.Puzzle.meaning puzzle.now).game }
+    requires table { length table.old ≡ 2048 }
+    requires numbers { length numbers.old ≡ 16384 }
+    requires moves { length moves.old ≡ 2048 }
+    ensures { IfOk result (λ answer. Tells (K.Kind.notation kind.now) answer.items) }
+{
+    match solve(puzzle, table, numbers, moves) {
+        Found::Way(count) => write_moves(heap, kind, &moves[..count]),
+        Found::NoWay => bytes_of(heap, b"(none)\n"),
+        Found::TooMany => bytes_of(heap, b"(full)\n"),
+    }
+}
+
+// The same, with memory from the heap.
+fn answer_level<P: Copy, Z: Puzzle<Position = P>, K: Kind<Position = P>>(
+    heap: Global,
+    puzzle: &Z,
+    kind: &K,
+) -> Result<Vec<u8>, AllocError>
     requires same { (K.Kind.notation kind.now).game ≡ (Z.Puzzle.meaning puzzle.now).game }
     ensures { IfOk result (λ answer. Tells (K.Kind.notation kind.now) answer.items) }
 {
     let mut table = vec![in heap; puzzle.start(); PLACES]?;
     let mut numbers = vec![in heap; 0u32; PLACES * NUMBERS_PER_PLACE]?;
     let mut moves = vec![in heap; 0u32; PLACES]?;
-    match solve(puzzle, &mut table, &mut numbers, &mut moves) {
-        Found::Way(count) => write_moves(heap, kind, &moves[..count]),
-        Found::NoWay => bytes_of(heap, b"(none)\n"),
-        Found::TooMany => bytes_of(heap, b"(full)\n"),
-    }
+    answer_with(heap, puzzle, kind, &mut table, &mut numbers, &mut moves)
 }
 
 /// The answer to a level's text.

@@ -17,7 +17,12 @@ pub(crate) enum Found {
 }
 
 /// Searches a puzzle to the end, and writes the moves of a shortest way to the front of `moves`.
-pub(crate) fn solve<P: Copy, Z: Puzzle<Position = P>>(puzzle: &Z, table: &mut [P], numbers: &mut [u32], moves: &mut [u32]) -> Found
+pub(crate) fn solve<P: Copy, Z: Puzzle<Position = P>>(
+    puzzle: &Z,
+    table: &mut [P],
+    numbers: &mut [u32],
+    moves: &mut [u32],
+) -> Found
     requires table { length table.old ≡ 2048 }
     requires numbers { length numbers.old ≡ 16384 }
     requires moves { length moves.old ≡ 2048 }

@@ -8,7 +8,11 @@ use ways::{Kind, write_way};
 const LINE_ROOM: usize = 32;
 
 /// The text of a way of moves that are open.
-pub(crate) fn write_moves<K: Kind>(heap: Global, kind: &K, moves: &[u32]) -> Result<Vec<u8>, AllocError>
+pub(crate) fn write_moves<K: Kind>(
+    heap: Global,
+    kind: &K,
+    moves: &[u32],
+) -> Result<Vec<u8>, AllocError>
     requires open { Playable (K.Kind.notation kind.now) moves.now }
     requires few { length moves.now ≤ 9999999 }
     ensures { IfOk result (λ text. text.items ≡ way_text (K.Kind.notation kind.now) moves.now) }
