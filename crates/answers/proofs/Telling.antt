@@ -6,7 +6,7 @@ use Rattle.puzzle.specs.Game.{Game, Plays, here, then, Solves, solved, step}
 use Rattle.puzzle.specs.Meaning.{Meaning, Finishes}
 use Rattle.search_theory.specs.Calls.{RecitesWay}
 use Rattle.search_theory.specs.Promise.{CanReach}
-use Rattle.search_theory.proofs.Known.{plays_more}
+use Rattle.puzzle.proofs.Reaching.{plays_more}
 use Rattle.ways.specs.Kinds.{Notation, Lawful}
 use Rattle.ways.specs.Judging.{judged}
 use Rattle.ways.specs.Writing.{opened, played_from, checked_as, Playable, way_text}
