@@ -1,8 +1,9 @@
 -- What a place that is added leaves of the chains. Assumes nothing.
-use Rattle.std.proofs.Common.{◌≡◌, ◌≢◌, ℕ, ◌+◌, ◌*◌, ◌%◌, ◌<◌, ◌≤◌, Bool, cond, List, [], ◌∷◌, ◌++◌, length, get_or, set, Some, None, Option, sym, refl, ap, ◌∙◌, ◌⊎◌, inl, inr, add-one, arith}
+use Rattle.std.proofs.Common.{◌≡◌, ◌≢◌, ℕ, ◌+◌, ◌*◌, ◌<◌, ◌≤◌, Bool, cond, List, [], ◌∷◌, ◌++◌, length, get_or, set, Some, None, Option, sym, refl, ap, ◌∙◌, ◌⊎◌, inl, inr, add-one, arith}
 use Rattle.std.proofs.lemmas.Bool.{cases_eq, ne_eqb}
 use Rattle.std.proofs.lemmas.List.{length-set, get_or-set_same, get_or-set_other}
-use Rattle.hash_index.specs.Chains.{most_places, no_place, place_of, key_of, link_of, head_of, keys_of, added, IsLargest, IsInBucket, HeadsAreLast, LinksAreEarlier}
+use Rattle.hash_index.specs.Chains.{most_places, no_place, place_of, key_of, link_of, head_of, keys_of, bucket_of, added, IsLargest, IsInBucket, HeadsAreLast, LinksAreEarlier}
+use Rattle.hash_index.proofs.Buckets.{bucket_below}
 use Rattle.hash_index.proofs.Largest.{largest_alike, largest_more}
 use Rattle.hash_index.proofs.Keys.{keys_alike}
 
@@ -10,22 +11,23 @@ use Rattle.hash_index.proofs.Keys.{keys_alike}
 place_of_itself : (place : ℕ) → place < most_places → place_of place ≡ Some place
 place_of_itself place few = ap (λ (b : Bool). cond b None (Some place)) (ne_eqb place no_place (λ same. omega arith))
 
--- there is room for the place
-pub record Adds (numbers : List ℕ) (capacity place : ℕ) : Type 0 where
+-- there is room for the place, and the key is a number of 32 bits
+pub record Adds (numbers : List ℕ) (capacity place key : ℕ) : Type 0 where
   pub few : capacity ≤ most_places
   pub room : place < capacity
   pub long : 3 * capacity ≤ length numbers
+  pub fits : key < 4294967296
 
-module _ (numbers : List ℕ) (capacity place key : ℕ) (adds : Adds numbers capacity place) where
+module _ (numbers : List ℕ) (capacity place key : ℕ) (adds : Adds numbers capacity place key) where
   -- the bucket of the key
   abbrev bucket : ℕ
-  bucket = key % capacity
+  bucket = bucket_of capacity key
 
   abbrev new : List ℕ
   new = added numbers capacity place key
 
-  bucket_below : bucket < capacity
-  bucket_below = let positive : 0 < capacity = omega arith in omega arith
+  head_in : bucket < capacity
+  head_in = bucket_below capacity key (omega arith) adds.fits
 
   pub added_length : length new ≡ length numbers
   added_length = simp length-set
@@ -55,7 +57,7 @@ module _ (numbers : List ℕ) (capacity place key : ℕ) (adds : Adds numbers ca
 
   head_new : head_of new capacity bucket ≡ Some place
   head_new =
-      let inside : 2 * capacity + bucket < length (set (set numbers (2 * place) key) (2 * place + 1) (get_or numbers (2 * capacity + bucket) 0)) = simp length-set (omega (arith, bucket_below)) in
+      let inside : 2 * capacity + bucket < length (set (set numbers (2 * place) key) (2 * place + 1) (get_or numbers (2 * capacity + bucket) 0)) = simp length-set (omega (arith, head_in)) in
       ap place_of (get_or-set_same _ (2 * capacity + bucket) place 0 inside) ∙ place_of_itself place (omega arith)
 
   head_old : (b : ℕ) → b ≢ bucket → head_of new capacity b ≡ head_of numbers capacity b
@@ -68,10 +70,10 @@ module _ (numbers : List ℕ) (capacity place key : ℕ) (adds : Adds numbers ca
       rw (add-one place, key_new) (ap (λ (keys : List ℕ). keys ++ (key ∷ [])) front)
 
   bucket_new : IsInBucket new capacity bucket place
-  bucket_new = ap (λ k. k % capacity) key_new
+  bucket_new = ap (bucket_of capacity) key_new
 
-  bucket_old : (j : ℕ) → j < place → key_of new j % capacity ≡ key_of numbers j % capacity
-  bucket_old j below = ap (λ k. k % capacity) (key_old j below)
+  bucket_old : (j : ℕ) → j < place → bucket_of capacity (key_of new j) ≡ bucket_of capacity (key_of numbers j)
+  bucket_old j below = ap (bucket_of capacity) (key_old j below)
 
   -- the largest place of a bucket among the places before stays
   still_largest : (b n : ℕ) (o : Option ℕ) → n ≤ place → IsLargest (IsInBucket numbers capacity b) n o → IsLargest (IsInBucket new capacity b) n o
@@ -89,8 +91,8 @@ module _ (numbers : List ℕ) (capacity place key : ℕ) (adds : Adds numbers ca
   pub links_added : HeadsAreLast numbers capacity place → LinksAreEarlier numbers capacity place → LinksAreEarlier new capacity (place + 1)
   links_added heads links i below = by (cases_eq i place)
     where
-      by : (i ≡ place) ⊎ (i ≡ place → ⊥) → IsLargest (IsInBucket new capacity (key_of new i % capacity)) i (link_of new i)
-      by (inl same) = rw (same, link_new, key_new) (still_largest bucket place _ (omega arith) (heads bucket bucket_below))
+      by : (i ≡ place) ⊎ (i ≡ place → ⊥) → IsLargest (IsInBucket new capacity (bucket_of capacity (key_of new i))) i (link_of new i)
+      by (inl same) = rw (same, link_new, key_new) (still_largest bucket place _ (omega arith) (heads bucket head_in))
       by (inr other) =
           let before : i < place = omega (arith, other) in
-          rw (link_old i before, key_old i before) (still_largest (key_of numbers i % capacity) i _ (omega arith) (links i before))
+          rw (link_old i before, key_old i before) (still_largest (bucket_of capacity (key_of numbers i)) i _ (omega arith) (links i before))

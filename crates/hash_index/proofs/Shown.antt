@@ -1,5 +1,5 @@
 -- What an index that is shown says of its places. Assumes nothing.
-use Rattle.std.proofs.Common.{◌≡◌, ◌<◌, length, sym, ap, ◌∙◌}
+use Rattle.std.proofs.Common.{◌≡◌, ℕ, ◌<◌, length, sym, ap, ◌∙◌}
 use Rattle.hash_index.specs.Index.{Index}
 use Rattle.hash_index.specs.Chains.{shown, IsIndex}
 use Rattle.hash_index.specs.declared.index.HashIndex.TheInside.{Inside}
@@ -12,5 +12,5 @@ module _ (inside : Inside) where
   length_shown index is = ap (λ (i : Index). length i.keys) (sym is) ∙ length_keys inside.chains.numbers.now inside.used
 
   -- where not all places are in use the next can be
-  pub next_fits : IsIndex inside → inside.used < inside.capacity → Adds inside.chains.numbers.now inside.capacity inside.used
-  next_fits index room = record { few = index.few; room = room; long = index.long }
+  pub next_fits : (key : ℕ) → IsIndex inside → inside.used < inside.capacity → key < 4294967296 → Adds inside.chains.numbers.now inside.capacity inside.used key
+  next_fits key index room fits = record { few = index.few; room = room; long = index.long; fits = fits }

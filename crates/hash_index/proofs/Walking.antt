@@ -1,9 +1,9 @@
 -- A walk along a chain meets the last place with a key. Assumes nothing.
-use Rattle.std.proofs.Common.{◌≡◌, ◌≢◌, ℕ, ◌+◌, ◌%◌, ◌<◌, ◌≤◌, List, Some, None, Option, subst, ap, ◌∙◌, ◌⊎◌, inl, inr, arith}
+use Rattle.std.proofs.Common.{◌≡◌, ◌≢◌, ℕ, ◌+◌, ◌<◌, ◌≤◌, List, Some, None, Option, subst, ap, ◌∙◌, ◌⊎◌, inl, inr, arith}
 use Rattle.std.specs.Prelude.{MatchOption, ⊤}
 use Rattle.std.proofs.lemmas.Bool.{cases_order}
 use Rattle.hash_index.specs.Index.{IsLast}
-use Rattle.hash_index.specs.Chains.{key_of, link_of, keys_of, IsLargest, IsInBucket, LinksAreEarlier}
+use Rattle.hash_index.specs.Chains.{key_of, link_of, keys_of, bucket_of, IsLargest, IsInBucket, LinksAreEarlier}
 use Rattle.hash_index.proofs.Keys.{key_there, key_is}
 
 module _ (numbers : List ℕ) (capacity key n : ℕ) where
@@ -11,15 +11,15 @@ module _ (numbers : List ℕ) (capacity key n : ℕ) where
   pub record Ahead (next : Option ℕ) : Type 0 where
     pub bound : ℕ
     pub within : bound ≤ n
-    pub largest : IsLargest (IsInBucket numbers capacity (key % capacity)) bound next
+    pub largest : IsLargest (IsInBucket numbers capacity (bucket_of capacity key)) bound next
     pub ahead : (j : ℕ) → j < n → key_of numbers j ≡ key → j < bound
 
-  pub begins : (next : Option ℕ) → IsLargest (IsInBucket numbers capacity (key % capacity)) n next → Ahead next
+  pub begins : (next : Option ℕ) → IsLargest (IsInBucket numbers capacity (bucket_of capacity key)) n next → Ahead next
   begins next largest = record { bound = n; within = omega arith; largest = largest; ahead = λ j below same. below }
 
   -- what has the key is in its bucket
-  in_bucket : (j : ℕ) → key_of numbers j ≡ key → IsInBucket numbers capacity (key % capacity) j
-  in_bucket j same = ap (λ k. k % capacity) same
+  in_bucket : (j : ℕ) → key_of numbers j ≡ key → IsInBucket numbers capacity (bucket_of capacity key) j
+  in_bucket j same = ap (bucket_of capacity) same
 
   -- where the walk is no place after it has the key
   none_after : (place : ℕ) → Ahead (Some place) → (j : ℕ) → place < j → j < n → key_of numbers j ≢ key

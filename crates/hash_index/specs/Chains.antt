@@ -1,5 +1,5 @@
 -- The chains of a hash index: how they lie in its numbers, and what they show. Assumes nothing.
-use Rattle.std.specs.Prelude.{◌≡◌, ℕ, zero, suc, ◌+◌, ◌*◌, ◌%◌, ◌<◌, ◌≤◌, ◌==◌, cond, List, [], ◌∷◌, ◌++◌, length, slice_index, slice_set, Some, None, Option}
+use Rattle.std.specs.Prelude.{◌≡◌, ℕ, zero, suc, ◌+◌, ◌*◌, ◌/◌, ◌<◌, ◌≤◌, ◌==◌, cond, List, [], ◌∷◌, ◌++◌, length, slice_index, slice_set, Some, None, Option}
 use Rattle.hash_index.specs.Index.{Index}
 use Rattle.hash_index.specs.declared.index.HashIndex.TheInside.{Inside}
 
@@ -32,9 +32,13 @@ abbrev pub keys_of : List ℕ → ℕ → List ℕ
 keys_of numbers zero = []
 keys_of numbers (suc n) = keys_of numbers n ++ (key_of numbers n ∷ [])
 
+-- the bucket of a key, which is scaled from 32 bits to so many buckets
+unfoldable pub bucket_of : ℕ → ℕ → ℕ
+bucket_of capacity key = capacity * key / 4294967296
+
 -- a place is the new head of the bucket of its key, linked to the one that was
 abbrev pub added : List ℕ → ℕ → ℕ → ℕ → List ℕ
-added numbers capacity place key = slice_set (slice_set (slice_set numbers (2 * place) key) (2 * place + 1) (slice_index numbers (2 * capacity + key % capacity))) (2 * capacity + key % capacity) place
+added numbers capacity place key = slice_set (slice_set (slice_set numbers (2 * place) key) (2 * place + 1) (slice_index numbers (2 * capacity + bucket_of capacity key))) (2 * capacity + bucket_of capacity key) place
 
 -- the largest number below n of which Q holds, if there is one
 abbrev pub IsLargest : (ℕ → Type 0) → ℕ → Option ℕ → Type 0
@@ -42,7 +46,7 @@ IsLargest Q n (Some place) = (place < n) × Q place × ((j : ℕ) → place < j 
 IsLargest Q n None = (j : ℕ) → j < n → Q j → ⊥
 
 abbrev pub IsInBucket : List ℕ → ℕ → ℕ → ℕ → Type 0
-IsInBucket numbers capacity bucket place = key_of numbers place % capacity ≡ bucket
+IsInBucket numbers capacity bucket place = bucket_of capacity (key_of numbers place) ≡ bucket
 
 -- each head is the last of the first n places that is in its bucket
 abbrev pub HeadsAreLast : List ℕ → ℕ → ℕ → Type 0
@@ -50,7 +54,7 @@ HeadsAreLast numbers capacity n = (bucket : ℕ) → bucket < capacity → IsLar
 
 -- each of the first n places is linked to the last place before it that is in its bucket
 abbrev pub LinksAreEarlier : List ℕ → ℕ → ℕ → Type 0
-LinksAreEarlier numbers capacity n = (place : ℕ) → place < n → IsLargest (IsInBucket numbers capacity (key_of numbers place % capacity)) place (link_of numbers place)
+LinksAreEarlier numbers capacity n = (place : ℕ) → place < n → IsLargest (IsInBucket numbers capacity (bucket_of capacity (key_of numbers place))) place (link_of numbers place)
 
 -- the fields are those of an index
 pub record IsIndex (h : Inside) : Type 0 where

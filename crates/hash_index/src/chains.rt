@@ -1,5 +1,5 @@
 ghost use Rattle.std.specs.Prelude.{◌≡◌, ℕ, ◌+◌, ◌*◌, ◌<◌, ◌≤◌, None, length};
-ghost use Rattle.hash_index.specs.Chains.{most_places, place_of, key_of, link_of, head_of, added};
+ghost use Rattle.hash_index.specs.Chains.{most_places, place_of, key_of, link_of, head_of, bucket_of, added};
 
 /// How many numbers a place takes: its key, and the place before it in its bucket.
 const KEY_AND_LINK: usize = 2;
@@ -16,6 +16,17 @@ const NO_PLACE: u32 = u32::MAX;
 #[derive(Drop)]
 pub(crate) struct Chains<'a> {
     pub(crate) numbers: &'a mut [u32],
+}
+
+/// The bucket of a key, which is scaled to the buckets: that takes no division, and goes by the key's high bits.
+#[tactic(auto, unfolding(crate::specs::Chains::bucket_of), using(crate::proofs::Buckets::bucket_below))]
+pub(crate) fn bucket_of(capacity: usize, key: u32) -> usize
+    requires some { 0 < capacity }
+    requires few { capacity ≤ most_places }
+    ensures named { result ≡ bucket_of capacity key }
+    ensures below { result < capacity }
+{
+    (capacity as u64 * u64::from(key) >> u32::BITS) as usize
 }
 
 fn place_in(number: u32) -> Option<usize>
@@ -43,7 +54,7 @@ fn add_to(numbers: &mut [u32], capacity: usize, place: usize, key: u32)
     requires long { 3 * capacity ≤ length numbers.old }
     ensures { numbers.new ≡ added numbers.old capacity place key }
 {
-    let head = KEY_AND_LINK * capacity + key as usize % capacity;
+    let head = KEY_AND_LINK * capacity + bucket_of(capacity, key);
     let last = numbers[head];
     numbers[KEY_AND_LINK * place] = key;
     numbers[KEY_AND_LINK * place + LINK] = last;

@@ -2,7 +2,7 @@
 use crate::HashIndex;
 
 // Of four buckets, these keys but the last are all in one.
-const KEYS: [u32; 4] = [1, 5, 1, 2];
+const KEYS: [u32; 4] = [1, 5, 1, 1 << 31];
 
 #[test]
 fn has_the_places_of_each_key(rt: HostRuntime) {
@@ -20,7 +20,7 @@ fn has_the_places_of_each_key(rt: HostRuntime) {
     for (key, due) in [
         (1, Some(2)),
         (5, Some(1)),
-        (2, Some(3)),
+        (1 << 31, Some(3)),
         (9, None),
         (0, None),
     ] {

@@ -1,5 +1,5 @@
 -- What stands while a place is sifted, and how it ends. Assumes nothing.
-use Rattle.std.proofs.Common.{◌≡◌, ◌≢◌, ℕ, ◌+◌, ◌*◌, ◌<◌, ◌≤◌, true, nat_lt, Some, None, List, refl, ap, sym, subst, ◌∙◌, arith, ◌⊎◌, inl, inr, ⊎_elim}
+use Rattle.std.proofs.Common.{◌≡◌, ◌≢◌, ℕ, ◌<◌, ◌≤◌, true, nat_lt, Some, None, List, refl, ap, sym, subst, ◌∙◌, arith, ◌⊎◌, inl, inr, ⊎_elim}
 use Rattle.std.proofs.lemmas.Bool.{cases_eq, lt-ltb}
 use Rattle.open_list.specs.declared.heap.Sizes.{Sizes}
 use Rattle.open_list.specs.Entries.{Entry}
@@ -120,12 +120,8 @@ module _ (held slot : ℕ) (start now new : List ℕ) (s : Sizes) (bound : ℕ) 
         let was = sinking.holed.slots from one.2 apart in
         let here : rank now (at from) ≡ rank start (at from) = known_down from one.2 apart in
         let put_down : Put s.capacity slot (at from) now new = subst (λ p. Put s.capacity slot p now new) is_place put in
-        let first : (j : ℕ) → 0 < j → j < s.queued → above j ≡ slot → rank start (at from) ≤ rank start (at j) = λ j some h e. ⊎_elim
-        (λ (q : j ≡ 2 * slot + 1). omega (arith, earlier.0.first, here, known_down j h (λ k. omega arith), ap (λ k. rank now (at k)) q))
-        (λ (ne : j ≢ 2 * slot + 1).
-        let q : j ≡ (2 * slot + 1) + 1 = omega arith in
-        omega (arith, earlier.0.second (omega arith), here, known_down j h (λ k. omega arith), ap (λ k. rank now (at k)) q))
-        (cases_eq j (2 * slot + 1)) in (
+        let first : (j : ℕ) → 0 < j → j < s.queued → above j ≡ slot → rank start (at from) ≤ rank start (at j) = λ j some h e.
+        omega (arith, earlier.0.first j (omega arith) (omega arith) h, here, known_down j h (λ k. omega arith)) in (
           sunk (rank start) s slot held now new sinking from (omega (arith, one)) one.2 (omega (arith, one)) (omega (arith, earlier.1, here, is_bound)) first put_down,
           kept_put held start now s kept slot (at from) new put_down sinking.holed.stored sinking.holed.hole_in was.0 (λ _. omega (arith, was.2, sinking.holed.stored.in_heap, sinking.holed.stored.in_use, sinking.holed.stored.few, one.2)) sinking.holed.held_in,
         )

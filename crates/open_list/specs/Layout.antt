@@ -21,9 +21,9 @@ place_in numbers capacity slot = slice_index numbers (3 * capacity + slot)
 abbrev pub no_slot : ℕ
 no_slot = 4294967295
 
--- the slot above a slot of the heap
+-- the slot above a slot of the heap: four lie below each
 abbrev pub above : ℕ → ℕ
-above slot = (slot - 1) / 2
+above slot = (slot - 1) / 4
 
 abbrev pub entry_at : List ℕ → ℕ → Entry
 entry_at numbers place = entry (depth_of numbers place) (floor_of numbers place) (nat_lt (slot_of numbers place) no_slot)

@@ -72,13 +72,12 @@ abbrev pub IsLaterAbove : List ℕ → ℕ → ℕ → ℕ → Option ℕ → Ty
 IsLaterAbove numbers capacity slot bound (Some place) = (0 < slot) × (place ≡ place_in numbers capacity (above slot)) × (bound < rank numbers place)
 IsLaterAbove numbers capacity slot bound None = 0 < slot → rank numbers (place_in numbers capacity (above slot)) ≤ bound
 
--- of a slot and the next in the heap the one whose place comes first
-pub record IsEarlier (numbers : List ℕ) (s : Sizes) (slot result : ℕ) : Type 0 where
-  pub one_of : (slot ≤ result) × (result ≤ slot + 1) × (result < s.queued)
-  pub first : rank numbers (place_in numbers s.capacity result) ≤ rank numbers (place_in numbers s.capacity slot)
-  pub second : slot + 1 < s.queued → rank numbers (place_in numbers s.capacity result) ≤ rank numbers (place_in numbers s.capacity (slot + 1))
+-- of the slots of the heap from one on, up to the end, the one whose place comes first
+pub record IsEarliest (numbers : List ℕ) (s : Sizes) (from end result : ℕ) : Type 0 where
+  pub one_of : (from ≤ result) × (result < end) × (result < s.queued)
+  pub first : (j : ℕ) → from ≤ j → j < end → j < s.queued → rank numbers (place_in numbers s.capacity result) ≤ rank numbers (place_in numbers s.capacity j)
 
--- the slot below a slot whose place comes first, if that comes before a rank
+-- of the slots below a slot the one whose place comes first, if that comes before a rank
 abbrev pub IsEarlierBelow : List ℕ → Sizes → ℕ → ℕ → Option ℕ → Type 0
-IsEarlierBelow numbers s slot bound (Some j) = IsEarlier numbers s (2 * slot + 1) j × (rank numbers (place_in numbers s.capacity j) < bound)
+IsEarlierBelow numbers s slot bound (Some j) = IsEarliest numbers s (4 * slot + 1) (4 * slot + 5) j × (rank numbers (place_in numbers s.capacity j) < bound)
 IsEarlierBelow numbers s slot bound None = (j : ℕ) → 0 < j → j < s.queued → above j ≡ slot → bound ≤ rank numbers (place_in numbers s.capacity j)

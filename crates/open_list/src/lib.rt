@@ -1,7 +1,7 @@
 //! The open list of a search: which place is taken next, by moves made and lower bound.
 //!
-//! It is a binary heap with the place of each entry in it, over lent numbers: nothing is allocated, and a call costs
-//! O(log n) at most.
+//! It is a heap with the place of each entry in it, four below each, over lent numbers: nothing is allocated, and a call
+//! costs O(log n) at most.
 #![tactic(auto)]
 
 mod heap;

@@ -1,7 +1,6 @@
 -- What playing a move comes to. Assumes nothing.
-use Rattle.std.proofs.Common.{◌≡◌, refl, sym, ap, subst, ◌∙◌, arith, ℕ, ◌+◌, ◌<◌, Bool, true, false, cond, nat_lt, List, [], ◌∷◌, ◌++◌, length, set, slice_get, Some, None, Option}
+use Rattle.std.proofs.Common.{◌≡◌, refl, sym, ap, subst, ◌∙◌, arith, ℕ, ◌+◌, ◌<◌, Bool, true, false, cond, nat_lt, List, [], ◌∷◌, ◌++◌, length, set, slice_get, Some}
 use Rattle.std.proofs.lemmas.Bool.{ltb-true, ltb-false, cond-true, cond-false}
-use Rattle.puzzle.specs.Game.{Played}
 use Rattle.puzzle.specs.Meaning.{Meaning}
 use Rattle.open_list.specs.Entries.{entry}
 use Rattle.search_theory.specs.Nodes.{Node, IsNew, reached_again}
@@ -9,11 +8,6 @@ use Rattle.search_theory.specs.Steps.{new_node, MovePlayed, no_nearer, nearer, s
 use Rattle.search.specs.Contents.{Contents, node_of, nodes_of, link_of}
 use Rattle.search.specs.Parts.{Finds, Stored, relaxed, Moved}
 use Rattle.search.proofs.Relaxing.{link_parent, link_move}
-
--- an open move leads to what it filled
-pub leads_to : {P : Type 0} (o : Option P) (is : Bool) (old to : P) → Played o is old to → is ≡ true → o ≡ Some to
-leads_to {P} (Some q) is old to played yes′ = ap Some (sym played.1)
-leads_to {P} None is old to played yes′ = (let shut = played.0 in absurd (cc))
 
 module _ {P : Type 0} (m : Meaning P) (capacity place : ℕ) (taken : Node P) (number : ℕ) (nodes : List (Node P)) (to : P) (leads : m.game.move taken.position number ≡ Some to) where
   -- the result is stored already

@@ -2,7 +2,8 @@
 use Rattle.std.specs.Prelude.{◌≡◌, ℕ, ◌<◌, Bool, true, false, cond, nat_lt, List, [], ◌∷◌, ◌++◌, slice_get, slice_set, Some, None, Option}
 use Rattle.puzzle.specs.Game.{Reached}
 use Rattle.puzzle.specs.Meaning.{Meaning}
-use Rattle.search_theory.specs.Nodes.{Node, IsNew, reached_again}
+use Rattle.search_theory.specs.Nodes.{Node, closed, IsNew, reached_again}
+use Rattle.search_theory.specs.Known.{Known}
 use Rattle.search_theory.specs.Steps.{MovePlayed, MovesPlayed, Overflows}
 use Rattle.search.specs.Contents.{Contents, nodes_of, Framed}
 
@@ -25,6 +26,11 @@ module _ {P : Type 0} where
   abbrev pub relaxed : List (Node P) → ℕ → Option (Node P) → ℕ → ℕ → ℕ → List (Node P)
   relaxed nodes place (Some node) depth parent move = cond (nat_lt depth node.depth) (slice_set nodes place (reached_again node depth parent move)) nodes
   relaxed nodes place None depth parent move = nodes
+
+  -- what holds of a node that was taken, and stands closed at its place, with this position and depth
+  abbrev pub OfTaken : Meaning P → List (Node P) → ℕ → P → ℕ → (Node P → Type 0) → Type 0
+  OfTaken m nodes place p depth Q =
+      (taken : Node P) → slice_get nodes place ≡ Some (closed taken) → taken.position ≡ p → taken.depth ≡ depth → depth < 1048576 → Known m nodes → Q taken
 
   module _ (m : Meaning P) (capacity place : ℕ) (taken : Node P) where
     -- a move was played from a taken node, or found no room

@@ -35,6 +35,10 @@ module _ {P : Type 0} (m : Meaning P) (capacity : ℕ) where
   steps_final first zero last none final = refl
   steps_final first (suc n) last (next {mid = mid} before one) final = absurd (final (steps_running first n mid before (step_running mid last one)))
 
+  pub steps_idle : (first : State P) (n : ℕ) (last : State P) → Steps m capacity first n last → (first.verdict ≡ Running → ⊥) → n ≡ 0
+  steps_idle first zero last none final = refl
+  steps_idle first (suc n) last (next {mid = mid} before one) final = absurd (final (steps_running first n mid before (step_running mid last one)))
+
   pub steps_honest : Lawful m → (first : State P) (n : ℕ) (last : State P) → Steps m capacity first n last → Honest m capacity first → Honest m capacity last
   steps_honest lawful first zero last none honest = honest
   steps_honest lawful first (suc n) last (next {mid = mid} before one) honest = step_honest m capacity lawful mid last (steps_honest lawful first n mid before honest) one

@@ -9,7 +9,7 @@ use Rattle.search_theory.specs.Steps.{Overflows}
 use Rattle.search_theory.specs.Known.{Known}
 use Rattle.search_theory.specs.Promise.{Distinct, CanReach}
 use Rattle.search_theory.proofs.Places.{get_map}
-use Rattle.search_theory.proofs.Known.{reached_more}
+use Rattle.puzzle.proofs.Reaching.{reached_more}
 use Rattle.search_theory.proofs.Sound.{Apart}
 
 -- the positions of nodes

@@ -1,5 +1,5 @@
 -- The node that is taken and finished was reached with the fewest moves. Assumes nothing.
-use Rattle.std.proofs.Common.{◌≡◌, ℕ, ◌≤◌, true, List, length, sym, subst, ◌∙◌, arith}
+use Rattle.std.proofs.Common.{◌≡◌, ℕ, ◌<◌, ◌≤◌, true, List, length, sym, subst, ◌∙◌, arith}
 use Rattle.puzzle.specs.Meaning.{Meaning, Finishes, Lawful}
 use Rattle.std.proofs.lemmas.Bool.{true≢false}
 use Rattle.search_theory.specs.Nodes.{Node, sum, Taken, NoneOpen}
@@ -28,6 +28,7 @@ module _ {P : Type 0} (m : Meaning P) where
     pub least : (moves : List ℕ) → Finishes m m.game.start moves → n ≤ length moves
     pub found : (place : ℕ) (node : Node P) → Taken nodes place node → Found m nodes n place
     pub some_open : NoneOpen nodes → ⊥
+    pub short : n < length nodes
 
   module _ (lawful : Lawful m) (nodes : List (Node P)) (sound : Sound m Everywhere nodes) (place : ℕ) (node : Node P) (taken : Taken nodes place node) (fin : m.game.finished node.position ≡ true) where
     least_moves : (moves : List ℕ) → Finishes m m.game.start moves → node.depth ≤ length moves
@@ -49,5 +50,6 @@ module _ {P : Type 0} (m : Meaning P) where
     shortest = record {
       least = least_moves;
       found = λ i other also. subst (λ k. Found m nodes node.depth k) (taken_once nodes place i node other taken also) found_there;
+      short = sound.known.depth place node taken.there;
       some_open = λ shut. true≢false (sym taken.is_open ∙ shut place node taken.there);
     }

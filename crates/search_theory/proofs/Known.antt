@@ -1,23 +1,14 @@
 -- What is known of each node is kept by every step. Assumes nothing.
 use Rattle.std.proofs.Common.{◌≡◌, ℕ, zero, suc, ◌+◌, ◌<◌, ◌≤◌, ◌⊎◌, inl, inr, List, [], ◌∷◌, ◌++◌, length, slice_get, slice_set, Some, None, Option, refl, sym, ap, subst, ◌∙◌, length-set, length-append, arith}
 use Rattle.std.proofs.lemmas.Option.{same_Some, none-some}
-use Rattle.puzzle.specs.Game.{Game, Plays, Reached, here, then}
+use Rattle.puzzle.specs.Game.{Reached, here}
+use Rattle.puzzle.proofs.Reaching.{reached_more}
 use Rattle.puzzle.specs.Meaning.{Meaning}
 use Rattle.search_theory.specs.declared.Verdict.TheVariants.{Running, Unsolvable}
 use Rattle.search_theory.specs.Nodes.{Node, closed, reached_again}
 use Rattle.search_theory.specs.Steps.{State, state, new_node, begun, MovePlayed, closed_move, dead_end, no_nearer, nearer, stored, MovesPlayed, none, next}
 use Rattle.search_theory.specs.Known.{Known}
 use Rattle.search_theory.proofs.Places.{Put, put_set, put_push, push_kept}
-
-module _ {P : Type 0} (g : Game P) where
-  -- one move more
-  pub plays_more : (p q r : P) (moves : List ℕ) (number : ℕ) → Plays g p moves q → number < g.count → g.move q number ≡ Some r → Plays g p (moves ++ (number ∷ [])) r
-  plays_more p q r [] number here below leads = then below leads here
-  plays_more p q r (n ∷ ns) number (then {q = s} b l more) below leads = then b l (plays_more s q r ns number more below leads)
-
-  -- what a move leads to from a reached position is reached
-  pub reached_more : (p q : P) (number : ℕ) → Reached g p → number < g.count → g.move p number ≡ Some q → Reached g q
-  reached_more p q number way below leads = (way.0 ++ (number ∷ []), plays_more g.start p q way.0 number way.1 below leads)
 
 module _ {P : Type 0} (m : Meaning P) where
   -- what is known of one node among so many

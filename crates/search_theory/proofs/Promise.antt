@@ -1,5 +1,6 @@
 -- The promise of a search is kept for every list of calls. Assumes nothing.
-use Rattle.std.proofs.Common.{◌≡◌, ℕ, ◌*◌, ◌<◌, ◌≤◌, length, Some, sym, ◌∙◌, arith, mul-le-mul_left}
+use Rattle.std.proofs.Common.{◌≡◌, ℕ, ◌*◌, ◌<◌, ◌≤◌, length, Some, sym, ap, ◌∙◌, arith, mul-le-mul_left}
+use Rattle.std.proofs.lemmas.Option.{same_Some}
 use Rattle.std.proofs.lemmas.Bool.{true≢false}
 use Rattle.puzzle.specs.Meaning.{Meaning, Lawful}
 use Rattle.search_theory.specs.declared.Verdict.TheVariants.{Running, Solved, Unsolvable, TableFull}
@@ -10,7 +11,7 @@ use Rattle.search_theory.specs.Promise.{Promise}
 use Rattle.search_theory.proofs.Weights.{open_weighs}
 use Rattle.search_theory.proofs.Crowds.{distinct_positions}
 use Rattle.search_theory.proofs.Stepping.{Honest, says_that}
-use Rattle.search_theory.proofs.Advancing.{steps_honest}
+use Rattle.search_theory.proofs.Advancing.{steps_honest, steps_idle}
 use Rattle.search_theory.proofs.Calling.{opened_run, final_run, recited}
 
 module _ {P : Type 0} (m : Meaning P) where
@@ -30,14 +31,19 @@ module _ {P : Type 0} (m : Meaning P) where
       record {
         shortest = λ n solved. (says_that m s.places t honest (Solved n) solved).least;
         recited = recited m s t is;
+        short = λ n solved. (let below = (says_that m s.places t honest (Solved n) solved).short in let room = honest.room in omega arith);
         unsolvable = says_that m s.places t honest Unsolvable;
         full = says_that m s.places t honest TableFull;
         counted = o.counted;
         spent = o.spent;
+        reached = honest.known.reached;
         distinct = distinct_positions t.nodes honest.apart;
         room = honest.room;
         few = honest.few;
         ends = steps_left s.places t honest;
+        idle = λ final budget answer last a.
+          let same : a.first ≡ t = same_Some a.first t (sym a.from ∙ is) in
+          steps_idle m s.places a.first answer.steps a.last a.steps (λ runs. final (ap (λ (x : State P). x.verdict) (sym same) ∙ runs));
         final = final_run m s t is;
       }
 

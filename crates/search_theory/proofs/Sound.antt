@@ -7,7 +7,7 @@ use Rattle.puzzle.specs.Meaning.{Meaning, Finishes, Lawful}
 use Rattle.search_theory.specs.Nodes.{Node, sum}
 use Rattle.search_theory.specs.Known.{Known}
 use Rattle.search_theory.proofs.Places.{Put, put_set, put_push}
-use Rattle.search_theory.proofs.Known.{reached_more}
+use Rattle.puzzle.proofs.Reaching.{reached_more}
 
 -- a node is written over one with the same position and no fewer moves, or added
 pub record Improves {P : Type 0} (old new : List (Node P)) (i : ℕ) (y : Node P) : Type 0 where

@@ -4,7 +4,7 @@ use Rattle.puzzle.specs.Game.{Plays, here}
 use Rattle.puzzle.specs.Meaning.{Meaning}
 use Rattle.search_theory.specs.Nodes.{Node}
 use Rattle.search_theory.specs.Known.{Leads, start, link}
-use Rattle.search_theory.proofs.Known.{plays_more}
+use Rattle.puzzle.proofs.Reaching.{plays_more}
 use Rattle.search_theory.proofs.Sound.{Linked, root, child}
 
 module _ {P : Type 0} (m : Meaning P) (nodes : List (Node P)) (linked : (i : ℕ) (node : Node P) → slice_get nodes i ≡ Some node → Linked m nodes node) where

@@ -4,9 +4,10 @@ use Rattle.refusals.specs.declared.Fault.{Fault}
 use Rattle.puzzle.specs.Game.{Reached}
 use Rattle.puzzle.specs.Meaning.{Meaning, Finishes}
 use Rattle.search_theory.specs.declared.Verdict.TheVariants.{Running, Solved, Unsolvable, TableFull}
+use Rattle.search_theory.specs.declared.Advance.{Advance}
 use Rattle.search_theory.specs.Nodes.{Node}
 use Rattle.search_theory.specs.Steps.{State}
-use Rattle.search_theory.specs.Calls.{Search, new_search, Call, opening, advance, asking, recital, Recites, RecitesWay, Run}
+use Rattle.search_theory.specs.Calls.{Search, new_search, Call, opening, advance, asking, recital, Advances, Recites, RecitesWay, Run}
 
 -- no position stands twice in a list
 abbrev pub Distinct : {P : Type 0} → List P → Type 0
@@ -44,6 +45,8 @@ module _ {P : Type 0} (m : Meaning P) where
     pub shortest : (n : ℕ) → t.verdict ≡ Solved n → (moves : List ℕ) → Finishes m m.game.start moves → n ≤ length moves
     pub recited : (n : ℕ) → t.verdict ≡ Solved n → (before after : List ℕ) (answer : Result ℕ Fault) → Recites m s before answer after → n ≤ length before
         → (answer ≡ Ok n) × RecitesWay m n before after
+    -- they are fewer than the table has places
+    pub short : (n : ℕ) → t.verdict ≡ Solved n → n < s.places
     -- unsolvable: no legal moves finish
     pub unsolvable : t.verdict ≡ Unsolvable → (moves : List ℕ) → Finishes m m.game.start moves → ⊥
     -- table full: more positions can be reached than there are places
@@ -52,11 +55,14 @@ module _ {P : Type 0} (m : Meaning P) where
     pub counted : t.steps ≡ answered calls
     pub spent : t.verdict ≡ Running → t.steps ≡ granted calls
     -- the positions that are held: all different, each of them reached, at most one for each place, and one and M for each step
+    pub reached : (i : ℕ) (node : Node P) → slice_get t.nodes i ≡ Some node → Reached m.game node.position
     pub distinct : Distinct (map (λ (n : Node P). n.position) t.nodes)
     pub room : length t.nodes ≤ s.places
     pub few : length t.nodes ≤ 1 + m.game.count * t.steps
     -- the verdict is final when as many steps were taken as the places multiplied by themselves
     pub ends : t.verdict ≡ Running → t.steps < s.places * s.places
+    -- an advance after a final verdict takes no steps
+    pub idle : (t.verdict ≡ Running → ⊥) → (budget : ℕ) (answer : Advance) (last : Search P) → Advances m budget s (Ok answer) last → answer.steps ≡ 0
     -- no later call changes a final verdict or its steps
     pub final : (t.verdict ≡ Running → ⊥) → (later : List Call) (last : Search P) → Run m s later last → last ≡ s
 

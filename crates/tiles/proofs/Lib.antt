@@ -1,3 +1,4 @@
 pub mod Board
 pub mod Walks
+pub mod Empty
 pub mod Sliding

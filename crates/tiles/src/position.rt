@@ -1,5 +1,6 @@
 //! Positions: one number with four bits a cell, the first cell lowest.
-ghost use Rattle.std.specs.Prelude.{◌≡◌, ◌<◌, ◌≤◌, ◌↔◌, IsTrue, count_by, ◌≢◌, nat_eq, slice_index};
+ghost use Rattle.std.specs.Prelude.{◌≡◌, ◌<◌, ◌≤◌, ◌↔◌, IsTrue, count_by, ◌≢◌, ◌==◌, nat_eq, slice_index};
+ghost use Rattle.std.specs.List.{position_or_len};
 ghost use Rattle.tiles.specs.Board.{packed, unpacked, cells, swapped, Numbered};
 
 /// How many bits of a position a cell takes.
@@ -7,6 +8,9 @@ pub const BITS_PER_CELL: usize = 4;
 
 /// The bits of a position's lowest cell.
 pub const CELL_MASK: u64 = 0xF;
+
+/// The lowest bit of each cell.
+const LOWEST_BITS: u64 = 0x1111_1111_1111_1111;
 
 /// The used cells of a position in reading order: what lies on each.
 #[derive(Debug, Drop)]
@@ -45,6 +49,18 @@ impl UsedCells {
             left: used,
         }
     }
+}
+
+/// The first of all sixteen cells on which nothing lies, or 16 if something lies on each.
+///
+/// It looks at all cells at once, since a search asks this for each move that it plays: the bits of each cell are brought
+/// together in its lowest one.
+#[tactic(auto, using(crate::proofs::Empty::first_empty))]
+pub(crate) fn first_empty(position: u64) -> usize
+    ensures { result ≡ position_or_len (λ t. t == 0) (cells position) }
+{
+    let taken = position | position >> 1 | position >> 2 | position >> 3;
+    (!taken & LOWEST_BITS).trailing_zeros() as usize / BITS_PER_CELL
 }
 
 // What lies on a cell.

@@ -10,7 +10,7 @@ use Rattle.text.proofs.Lines.{split_join, one_line_append, one_line_decimal}
 use Rattle.ways.specs.Kinds.{Notation, Lawful}
 use Rattle.ways.specs.Judging.{way, Follows, ends, goes}
 use Rattle.ways.specs.Writing.{move_lines, way_text, WritesAccepted}
-use Rattle.ways.proofs.Steps.{reached_more}
+use Rattle.puzzle.proofs.Reaching.{reached_more}
 use Rattle.ways.proofs.Accepting.{accepts_exactly}
 use Rattle.ways.proofs.Lines.{lines}
 

@@ -1,27 +1,12 @@
 -- One line of a way: what is kept. Assumes nothing.
-use Rattle.std.proofs.Common.{◌≡◌, ℕ, ◌<◌, Bool, true, false, cond, ltb, List, [], ◌∷◌, ◌++◌, Some, None, Ok, Err, Option, Result, sym, refl, ap, ◌∙◌}
-use Rattle.std.proofs.lemmas.Bool.{true≢false, cond-true, lt-ltb}
-use Rattle.puzzle.specs.Game.{Game, Plays, Reached, here, then, Played}
+use Rattle.std.proofs.Common.{◌≡◌, ℕ, ◌<◌, Bool, true, false, cond, ltb, Some, None, Ok, Err, Option, Result, sym, refl, ap, ◌∙◌}
+use Rattle.std.proofs.lemmas.Bool.{cond-true, lt-ltb}
 use Rattle.refusals.specs.declared.Fault.TheVariants.{NothingThere, ClosedMove, AfterFinish}
 use Rattle.refusals.specs.declared.Refusal.{Refusal}
 use Rattle.refusals.specs.Refusals.{refusal}
 use Rattle.ways.specs.Kinds.{Notation, Lawful}
 use Rattle.ways.specs.Judging.{followed}
 use Rattle.ways.specs.Writing.{opened}
-
-module _ {P : Type 0} (g : Game P) where
-  one_more : (p q r : P) (ms : List ℕ) (m : ℕ) → Plays g p ms q → m < g.count → g.move q m ≡ Some r → Plays g p (ms ++ m ∷ []) r
-  one_more p q r [] m here lt e = then lt e here
-  one_more p q r (n ∷ ns) m (then {q = s} b d w) lt e = then b d (one_more s q r ns m w lt e)
-
-  -- what an open move leads to from a reached position is reached
-  pub reached_more : (p q : P) (m : ℕ) → Reached g p → m < g.count → g.move p m ≡ Some q → Reached g q
-  reached_more p q m r lt e = (r.0 ++ m ∷ [], one_more g.start p q r.0 m r.1 lt e)
-
--- where `play` says that a move is open, it leads to what was filled in
-pub played_open : {P : Type 0} (o : Option P) {b : Bool} (old new : P) → b ≡ true → Played o b old new → o ≡ Some new
-played_open (Some q) old new e h = ap Some (sym h.1)
-played_open None old new e h = absurd (true≢false (sym e ∙ h.0))
 
 -- a number that is below the count leads where its move leads
 pub opened_below : {P W : Type 0} (k : Notation P W) (p : P) (m : ℕ) → m < k.game.count → opened k p m ≡ k.game.move p m

@@ -1,9 +1,9 @@
-ghost use Rattle.std.specs.Prelude.{◌≡◌, ℕ, [], ◌%◌, ◌<◌, nat_lt, length, slice_get, MatchOption, ⊤};
+ghost use Rattle.std.specs.Prelude.{◌≡◌, ℕ, [], ◌<◌, nat_lt, length, slice_get, MatchOption, ⊤};
 ghost use Rattle.hash_index.specs.Index.{fits, Started, Pushed, IsLast, IsEarlier};
-ghost use Rattle.hash_index.specs.Chains.{IsInBucket, IsLargest};
+ghost use Rattle.hash_index.specs.Chains.{bucket_of, IsInBucket, IsLargest};
 
 use super::HashIndex;
-use crate::chains::Chains;
+use crate::chains::{Chains, bucket_of};
 
 /// The most places that an index has.
 const MOST_PLACES: usize = 1_048_576;
@@ -63,7 +63,7 @@ impl<'a> HashIndex<'a> {
         }
         let head = self
             .chains
-            .head(self.capacity, key as usize % self.capacity);
+            .head(self.capacity, bucket_of(self.capacity, key));
         self.along(head, key)
     }
 
@@ -80,7 +80,7 @@ impl<'a> HashIndex<'a> {
     /// The first place that has the key, along the chain that begins at `from`.
     fn along(&self, from: Option<usize>, key: u32) -> Option<usize>
         requires { MatchOption from ⊤ (λ place. place < length self.now.keys) }
-        ensures { (n : ℕ) → IsLargest (IsInBucket self.now.numbers self.now.capacity (key % self.now.capacity)) n from → IsLast self.now.keys n key result }
+        ensures { (n : ℕ) → IsLargest (IsInBucket self.now.numbers self.now.capacity (bucket_of self.now.capacity key)) n from → IsLast self.now.keys n key result }
     {
         let mut next = from;
         while let Some(place) = next {

@@ -1,9 +1,12 @@
 ghost use Rattle.std.specs.Prelude.{◌≡◌, ◌+◌, ◌<◌};
 ghost use Rattle.open_list.specs.Layout.{place_in, above, rank};
-ghost use Rattle.open_list.specs.Sifting.{Stored, PlacesFrom, Rising, Sinking, Sifted, IsLaterAbove, IsEarlier, IsEarlierBelow};
+ghost use Rattle.open_list.specs.Sifting.{Stored, PlacesFrom, Rising, Sinking, Sifted, IsLaterAbove, IsEarliest, IsEarlierBelow};
 
 use super::Sizes;
 use super::layout::{place_in, put, rank};
+
+/// How many slots of the heap lie below a slot. Four lie side by side, and make the heap half as high as two would.
+const SLOTS_BELOW: usize = 4;
 
 /// Puts a place into the heap, in a slot or one above it.
 pub(crate) fn sift_up(numbers: &mut [u32], sizes: Sizes, from: usize, place: usize)
@@ -14,7 +17,7 @@ pub(crate) fn sift_up(numbers: &mut [u32], sizes: Sizes, from: usize, place: usi
     let mut slot = from;
     while let Some(later) = later_above(numbers, sizes, slot, own) {
         put(numbers, sizes.capacity, slot, later);
-        slot = (slot - 1) / 2;
+        slot = (slot - 1) / SLOTS_BELOW;
     }
     put(numbers, sizes.capacity, slot, place);
 }
@@ -44,38 +47,43 @@ fn later_above(numbers: &[u32], sizes: Sizes, slot: usize, bound: u128) -> Optio
     if slot == 0 {
         return None;
     }
-    let place = place_in(numbers, sizes.capacity, (slot - 1) / 2);
+    let place = place_in(numbers, sizes.capacity, (slot - 1) / SLOTS_BELOW);
     (bound < rank(numbers, place)).then_some(place)
 }
 
-// The slot below a slot whose place comes first, if that comes before a rank.
+// Of the slots below a slot the one whose place comes first, if that comes before a rank.
 fn earlier_below(numbers: &[u32], sizes: Sizes, slot: usize, bound: u128) -> Option<usize>
     requires stored { Stored numbers.now sizes }
     requires slot_in { slot < sizes.queued }
     requires places { PlacesFrom (slot + 1) numbers.now sizes }
     ensures { IsEarlierBelow numbers.now sizes slot bound result }
 {
-    let left = 2 * slot + 1;
+    let left = SLOTS_BELOW * slot + 1;
     if left >= sizes.queued {
         return None;
     }
-    let first = earlier(numbers, sizes, left);
+    let first = earliest(numbers, sizes, left);
     (rank_in(numbers, sizes, first) < bound).then_some(first)
 }
 
-// Of a slot and the next in the heap the one whose place comes first.
-fn earlier(numbers: &[u32], sizes: Sizes, slot: usize) -> usize
+// Of a slot and the three beside it in the heap the one whose place comes first.
+fn earliest(numbers: &[u32], sizes: Sizes, from: usize) -> usize
     requires stored { Stored numbers.now sizes }
-    requires slot_in { slot < sizes.queued }
-    requires places { PlacesFrom slot numbers.now sizes }
-    ensures { IsEarlier numbers.now sizes slot result }
+    requires from_in { from < sizes.queued }
+    requires places { PlacesFrom from numbers.now sizes }
+    ensures { IsEarliest numbers.now sizes from (from + 4) result }
 {
-    let next = slot + 1;
-    if next < sizes.queued && rank_in(numbers, sizes, next) < rank_in(numbers, sizes, slot) {
-        next
-    } else {
-        slot
+    let end = sizes.queued.min(from + SLOTS_BELOW);
+    let mut first = from;
+    let mut least = rank_in(numbers, sizes, from);
+    for slot in from + 1..end {
+        let own = rank_in(numbers, sizes, slot);
+        if own < least {
+            first = slot;
+            least = own;
+        }
     }
+    first
 }
 
 // The rank of the place in a slot.

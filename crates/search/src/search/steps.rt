@@ -1,13 +1,13 @@
 //! A step and its parts.
-ghost use Rattle.std.specs.Prelude.{◌≡◌, [], ◌<◌, ◌+◌, ◌^◌, true, length, nat_lt, slice_get, Some, IfSome};
+ghost use Rattle.std.specs.Prelude.{◌≡◌, [], ◌<◌, ◌+◌, ◌^◌, true, length, nat_lt, slice_get, IfSome};
 ghost use Rattle.puzzle.specs.Game.{Reached};
 ghost use Rattle.search_theory.specs.declared.Verdict.TheVariants.{Running};
-ghost use Rattle.search_theory.specs.Nodes.{Node, closed, NoneOpen};
+ghost use Rattle.search_theory.specs.Nodes.{NoneOpen};
 ghost use Rattle.search_theory.specs.Known.{Known};
 ghost use Rattle.search_theory.specs.Steps.{state, begun, Step};
 ghost use Rattle.open_list.specs.Entries.{entry};
-ghost use Rattle.search.specs.Contents.{Contents, node_of, link_of, nodes_of, numbers_of, Framed};
-ghost use Rattle.search.specs.Parts.{Finds, Stored, relaxed, Moved, Expanded};
+ghost use Rattle.search.specs.Contents.{node_of, link_of, nodes_of, numbers_of, Framed};
+ghost use Rattle.search.specs.Parts.{Finds, Stored, relaxed, OfTaken, Moved, Expanded};
 
 use super::Search;
 use puzzle::Puzzle;
@@ -103,7 +103,7 @@ impl<'a, P: Copy> Search<'a, P> {
         requires place { place < length self.old.open_list.entries }
         requires few { place < 1048576 }
         requires number { number < Z.Puzzle.MOVES }
-        ensures moves { let m = Z.Puzzle.meaning puzzle.now in (taken : Node P) → slice_get (nodes_of self.old) place ≡ Some (closed taken) → taken.position ≡ from.now → taken.depth ≡ depth → depth < 1048576 → Known m (nodes_of self.old) → Moved m self.old.open_list.capacity place taken number self.old result self.new }
+        ensures moves { let m = Z.Puzzle.meaning puzzle.now in OfTaken m (nodes_of self.old) place from.now depth (λ taken. Moved m self.old.open_list.capacity place taken number self.old result self.new) }
         ensures frame { Framed self.old self.new }
     {
         let mut to = *from;
@@ -136,7 +136,7 @@ impl<'a, P: Copy> Search<'a, P> {
     ) -> bool
         requires place { place < length self.old.open_list.entries }
         requires few { place < 1048576 }
-        ensures moves { let m = Z.Puzzle.meaning puzzle.now in (taken : Node P) → slice_get (nodes_of self.old) place ≡ Some (closed taken) → taken.position ≡ from.now → taken.depth ≡ depth → depth < 1048576 → Known m (nodes_of self.old) → Expanded m self.old.open_list.capacity place taken self.old result self.new }
+        ensures moves { let m = Z.Puzzle.meaning puzzle.now in OfTaken m (nodes_of self.old) place from.now depth (λ taken. Expanded m self.old.open_list.capacity place taken self.old result self.new) }
         ensures frame { Framed self.old self.new }
     {
         for number in 0..Z::MOVES {

@@ -4,7 +4,7 @@ ghost use Rattle.tiles.specs.Board.{cells, blank_of, home};
 ghost use Rattle.tiles.specs.Level.{tiles, tiles_of, Valid, side, moved, finished};
 
 use super::TileLevel;
-use crate::position::{UsedCells, is_numbered, with_swapped};
+use crate::position::{UsedCells, first_empty, is_numbered, with_swapped};
 use grid::{Direction, Grid};
 
 /// The fewest cells that a board is wide and high.
@@ -95,6 +95,7 @@ impl TileLevel {
     fn blank(&self, position: u64) -> Option<usize>
         ensures { result ≡ blank_of (take (self.now.grid.width * self.now.grid.height) (cells position)) }
     {
-        UsedCells::new(position, self.grid.cells()).position(|tile| tile == 0)
+        let cell = first_empty(position);
+        (cell < self.grid.cells()).then_some(cell)
     }
 }

@@ -1,15 +1,12 @@
-use Rattle.std.proofs.Common.{◌%◌, ◌<◌, arith}
 use Rattle.hash_index.proofs.Keys.{length_keys}
 use Rattle.hash_index.proofs.Shown.{length_shown}
 use Rattle.hash_index.proofs.Largest.{largest_below}
 use Rattle.hash_index.proofs.index.HashIndex.last.Goals as goal
 
 pub along-requires : goal.along-requires
-along-requires c =
-    let below : c.args.key % c.self.inside.capacity < c.self.inside.capacity = omega arith in
-    rw (length_shown c.self.inside c.args.self.now c.self.view_is, c.head-head.ensures) (largest_below _ _ _ (c.self.invariant.heads _ below))
+along-requires c = rw (length_shown c.self.inside c.args.self.now c.self.view_is, c.head-head.ensures)
+    (largest_below _ _ _ (c.self.invariant.heads _ c.bucket_of.ensures.below))
 
 pub returns : goal.returns
-returns c =
-    let below : c.args.key % c.self.inside.capacity < c.self.inside.capacity = omega arith in
-    c.along.ensures _ (rw (← c.self.view_is, c.head-head.ensures, length_keys) (c.self.invariant.heads _ below))
+returns c = c.along.ensures _
+    (rw (← c.self.view_is, c.head-head.ensures, ← c.bucket_of.ensures.named, length_keys) (c.self.invariant.heads _ c.bucket_of.ensures.below))

@@ -10,7 +10,7 @@ returns-then-place-self-clause-room c = rw (← c.self.view_is, length_keys) (sy
 
 pub invariant_of-self : goal.invariant_of-self
 invariant_of-self c =
-    let adds = next_fits c.self.inside c.self.invariant (omega arith) in
+    let adds = next_fits c.self.inside c.args.key c.self.invariant (omega arith) (omega arith) in
     record {
       few = omega arith;
       room = omega arith;
@@ -24,7 +24,7 @@ returns-clause-room c = rw (← c.self.view_is, length_keys) (sym (lt-ltb _ _ (o
 
 pub returns-clause-after : goal.returns-clause-after
 returns-clause-after c =
-    let adds = next_fits c.self.inside c.self.invariant (omega arith) in
+    let adds = next_fits c.self.inside c.args.key c.self.invariant (omega arith) (omega arith) in
     rw (← c.self.view_is, c.add.ensures) (record {
       keys = keys_added _ _ _ c.args.key adds;
       capacity = refl;

@@ -1,11 +1,11 @@
 use Rattle.std.proofs.Common.{◌≡◌, ◌<◌, ◌+◌, sym, ap, subst, refl, ◌∙◌, arith}
 use Rattle.puzzle.specs.Game.{Reached}
-use Rattle.search_theory.proofs.Known.{reached_more}
+use Rattle.puzzle.proofs.Reaching.{played_open, reached_more}
 use Rattle.search_theory.specs.Nodes.{closed}
 use Rattle.search_theory.specs.Steps.{dead_end}
 use Rattle.search.specs.Contents.{nodes_of}
 use Rattle.search.specs.Parts.{Finds}
-use Rattle.search.proofs.Playing.{leads_to, known_again, known_new}
+use Rattle.search.proofs.Playing.{known_again, known_new}
 use Rattle.search.proofs.search.Search.play_move.Goals as goal
 
 pub returns-in-Some-clause-moves : goal.returns-in-Some-clause-moves
@@ -14,7 +14,7 @@ returns-in-Some-clause-moves g c = λ taken at position depth shallow known.
     let nodes = nodes_of c.args.self.now in
     let number = c.args.number in
     let from = subst (Reached m.game) position (known.reached c.args.place (closed taken) at) in
-    let opens = leads_to (m.game.move c.args.from.now number) c.play.result _ c.play.new.into (c.play.ensures from) c.if-not-play.false in
+    let opens = played_open (m.game.move c.args.from.now number) _ c.play.new.into c.if-not-play.false (c.play.ensures from) in
     let leads = ap (λ p. m.game.move p number) position ∙ opens in
     let few : number < m.game.count = rw (g.met.Z.Puzzle.counted c.args.puzzle.now) c.requires.number in
     let to = reached_more m.game c.args.from.now c.play.new.into number from few opens in
@@ -27,7 +27,7 @@ returns-in_default-lower_bound-clause-moves g c = λ taken at position depth sha
     let m = g.Z.Puzzle.meaning c.args.puzzle.now in
     let number = c.args.number in
     let from = subst (Reached m.game) position (known.reached c.args.place (closed taken) at) in
-    let opens = leads_to (m.game.move c.args.from.now number) c.play.result _ c.play.new.into (c.play.ensures from) c.if-not-play.false in
+    let opens = played_open (m.game.move c.args.from.now number) _ c.play.new.into c.if-not-play.false (c.play.ensures from) in
     let leads = ap (λ p. m.game.move p number) position ∙ opens in
     let few : number < m.game.count = rw (g.met.Z.Puzzle.counted c.args.puzzle.now) c.requires.number in
     let to = reached_more m.game c.args.from.now c.play.new.into number from few opens in
@@ -39,7 +39,7 @@ returns-clause-moves g c = λ taken at position depth shallow known.
     let nodes = nodes_of c.args.self.now in
     let number = c.args.number in
     let from = subst (Reached m.game) position (known.reached c.args.place (closed taken) at) in
-    let opens = leads_to (m.game.move c.args.from.now number) c.play.result _ c.play.new.into (c.play.ensures from) c.if-not-play.false in
+    let opens = played_open (m.game.move c.args.from.now number) _ c.play.new.into c.if-not-play.false (c.play.ensures from) in
     let leads = ap (λ p. m.game.move p number) position ∙ opens in
     let few : number < m.game.count = rw (g.met.Z.Puzzle.counted c.args.puzzle.now) c.requires.number in
     let small : number < 256 = omega (arith, (g.met.Z.Puzzle.lawful c.args.puzzle.now).few) in

@@ -1,7 +1,8 @@
 use Rattle.std.proofs.Common.{◌<◌, sym, ◌∙◌, arith}
 use Rattle.std.proofs.Math.Logic.{∥∥₁_elim, ∥∥₁_map}
 use Rattle.std.specs.Coded.{Coded-set, coded_option}
-use Rattle.ways.proofs.Steps.{played_open, opened_below, reached_more}
+use Rattle.puzzle.proofs.Reaching.{played_open, reached_more}
+use Rattle.ways.proofs.Steps.{opened_below}
 use Rattle.ways.proofs.walk.Walk.play.Goals as goal
 
 pub invariant_of-result : goal.invariant_of-result
