@@ -42,8 +42,8 @@ module _ {P : Type 0} (m : Meaning P) where
         few = honest.few;
         ends = steps_left s.places t honest;
         idle = λ final budget answer last a.
-          let same : a.first ≡ t = same_Some a.first t (sym a.from ∙ is) in
-          steps_idle m s.places a.first answer.steps a.last a.steps (λ runs. final (ap (λ (x : State P). x.verdict) (sym same) ∙ runs));
+            let same : a.first ≡ t = same_Some a.first t (sym a.from ∙ is) in
+            steps_idle m s.places a.first answer.steps a.last a.steps (λ runs. final (ap (λ (x : State P). x.verdict) (sym same) ∙ runs));
         final = final_run m s t is;
       }
 
