@@ -1,12 +1,11 @@
 -- The list of entries after a change. Assumes nothing.
-use Rattle.std.proofs.Common.{◌≡◌, ◌≢◌, ℕ, ◌+◌, ◌<◌, ◌≤◌, nat_lt, List, [], ◌∷◌, ◌++◌, length, set, get_or, slice_get, Some, None, ap, sym, ◌∙◌, arith, ⊎_elim}
+use Rattle.std.proofs.Common.{◌≡◌, ◌≢◌, ℕ, ◌+◌, ◌<◌, ◌≤◌, List, [], ◌∷◌, ◌++◌, length, set, get_or, slice_get, Some, None, ap, sym, ◌∙◌, arith, ⊎_elim}
 use Rattle.std.proofs.lemmas.Bool.{cases_eq}
 use Rattle.std.proofs.lemmas.List.{same_lists, length-set, get_or-set_same, get_or-set_other}
 use Rattle.std.proofs.lemmas.List.FromFn.{length-map-range_with_len, get_or-map-range_with_len, map-range_with_len_more}
 use Rattle.std.proofs.lemmas.Option.{slice_get-get_or, slice_get_within, slice_get_past, get_or_from_slice_get}
 use Rattle.open_list.specs.Entries.{Entry}
-use Rattle.open_list.specs.Layout.{depth_of, entry_at, entries}
-use Rattle.open_list.specs.OpenList.{is_nearer}
+use Rattle.open_list.specs.Layout.{entry_at, entries}
 
 pub length_entries : (numbers : List ℕ) (used : ℕ) → length (entries numbers used) ≡ used
 length_entries numbers used = length-map-range_with_len (entry_at numbers) 0 used
@@ -58,7 +57,3 @@ module _ (old new : List ℕ) (used : ℕ) where
 -- a place that is not in use has no entry
 pub entry_past : (numbers : List ℕ) (used i : ℕ) → used ≤ i → slice_get (entries numbers used) i ≡ None
 entry_past numbers used i h = slice_get_past (entries numbers used) i (omega (arith, length_entries numbers used))
-
--- whether an entry there was reached with more moves
-pub nearer_there : (numbers : List ℕ) (used i depth : ℕ) → i < used → is_nearer depth (slice_get (entries numbers used) i) ≡ nat_lt depth (depth_of numbers i)
-nearer_there numbers used i depth h = ap (is_nearer depth) (entry_there numbers used i h)

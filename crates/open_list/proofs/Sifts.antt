@@ -21,13 +21,6 @@ pub record Kept (held : ℕ) (start now : List ℕ) (s : Sizes) : Type 0 where
   pub depth : depth_of now held ≡ depth_of start held
   pub floor : floor_of now held ≡ floor_of start held
 
-pub kept_start : (held : ℕ) (start : List ℕ) (s : Sizes) → Kept held start start s
-kept_start held start s = record {
-  same = record { long = refl; others = λ i h ne. refl };
-  depth = refl;
-  floor = refl;
-}
-
 module _ (held : ℕ) (start now : List ℕ) (s : Sizes) (kept : Kept held start now s) where
   -- so do ranks
   pub rank_kept : (i : ℕ) → i < s.used → rank now i ≡ rank start i

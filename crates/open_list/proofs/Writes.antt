@@ -24,9 +24,6 @@ module _ (capacity slot place : ℕ) (old : List ℕ) (room : 4 * capacity ≤ l
   abbrev in_slot : List ℕ
   in_slot = set old (3 * capacity + slot) place
 
-  abbrev linked_up : List ℕ
-  linked_up = set in_slot (3 * place + 2) slot
-
   pub put_done : Put capacity slot place old (set (set old (3 * capacity + slot) place) (3 * place + 2) slot)
   unfolding depth_of floor_of slot_of place_in
   put_done = record {

@@ -53,15 +53,6 @@ node_parts {P} (p ∷ ps) (e ∷ es) (k ∷ ks) (l ∷ ls) zero node h = record 
 }
 node_parts {P} (p ∷ ps) (e ∷ es) (k ∷ ks) (l ∷ ls) (suc i) node h = deeper ps es ks ls i node p e k l (node_parts ps es ks ls i node h)
 
-pub node_there : {P : Type 0} (ps : List P) (es : List Entry) (ks ls : List ℕ) (i : ℕ) (p : P) (e : Entry) (k l : ℕ)
-    → slice_get ps i ≡ Some p → slice_get es i ≡ Some e → slice_get ks i ≡ Some k → slice_get ls i ≡ Some l → slice_get (nodes_from ps es ks ls) i ≡ Some (node_of p e k l)
-node_there {P} ps [] ks ls i p e k l a b c d = absurd (cc)
-node_there {P} [] (x ∷ es) ks ls i p e k l a b c d = absurd (cc)
-node_there {P} (q ∷ ps) (x ∷ es) [] ls i p e k l a b c d = absurd (cc)
-node_there {P} (q ∷ ps) (x ∷ es) (y ∷ ks) [] i p e k l a b c d = absurd (cc)
-node_there {P} (q ∷ ps) (x ∷ es) (y ∷ ks) (z ∷ ls) zero p e k l a b c d = cc
-node_there {P} (q ∷ ps) (x ∷ es) (y ∷ ks) (z ∷ ls) (suc i) p e k l a b c d = node_there ps es ks ls i p e k l a b c d
-
 pub length-nodes : {P : Type 0} (ps : List P) (es : List Entry) (ks ls : List ℕ) → length ks ≡ length es → length es ≤ length ps → length es ≤ length ls → length (nodes_from ps es ks ls) ≡ length es
 length-nodes {P} ps [] ks ls a b c = refl
 length-nodes {P} [] (e ∷ es) ks ls a b c = absurd (omega arith)

@@ -9,7 +9,7 @@ use Rattle.open_list.specs.Entries.{Entry}
 use Rattle.search_theory.specs.declared.Verdict.TheVariants.{Solved}
 use Rattle.search_theory.specs.Nodes.{Node}
 use Rattle.search_theory.specs.Steps.{State}
-use Rattle.search_theory.specs.Calls.{Search, recite_refusal, RecitesWay}
+use Rattle.search_theory.specs.Calls.{Search, recite_refusal}
 use Rattle.search_theory.specs.Known.{Leads, start, link, Found}
 use Rattle.search.specs.Contents.{nodes_from}
 use Rattle.search.proofs.Nodes.{node_parts}
@@ -78,13 +78,6 @@ module _ {P : Type 0} (m : Meaning P) where
 
     pub reciting_more : Reciting (nodes_from ps es ks ls) parent left count old (set now left number)
     reciting_more = by_leads r.before refl r.leads
-
-  pub reciting_ends : (nodes : List (Node P)) (place count : ℕ) (old now : List ℕ) → Reciting nodes place 0 count old now → RecitesWay m count old now
-  reciting_ends nodes place count old now r = by_before r.before r.left_is r.count_is r.finish
-    where
-      by_before : (before : List ℕ) → length before ≡ 0 → length before + length r.rest ≡ count → Finishes m m.game.start (before ++ r.rest) → RecitesWay m count old now
-      by_before [] none count_is finish = record { moves = r.rest; count = (omega arith); finish = finish; written = r.written_is }
-      by_before (x ∷ before) none count_is finish = absurd (omega arith)
 
 pub may_recite : {P : Type 0} (s : Search P) (t : State P) (n room : ℕ) → s.state ≡ Some t → t.verdict ≡ Solved n → n ≤ room → recite_refusal s room ≡ None
 may_recite {P} s t n room opened solved enough = rw (opened, solved, le-leb n room enough) refl

@@ -5,7 +5,7 @@ use Rattle.open_list.specs.OpenList.{Open}
 use Rattle.hash_index.specs.Index.{Index}
 use Rattle.search_theory.specs.declared.Verdict.{Verdict}
 use Rattle.search_theory.specs.Nodes.{Node}
-use Rattle.search_theory.specs.Steps.{state}
+use Rattle.search_theory.specs.Steps.{State, state}
 use Rattle.search_theory.specs.Calls.{Search}
 
 -- the lent table and the three parts of the lent list: open list, index and links; whether it is opened, its verdict and steps
@@ -40,12 +40,15 @@ module _ {P : Type 0} where
   abbrev pub numbers_of : Contents P → ℕ
   numbers_of c = length c.open_list.numbers + length c.index.numbers + length c.links
 
+  abbrev pub state_of : Contents P → State P
+  state_of c = state (nodes_of c) c.verdict c.steps
+
   -- the search as its calls see it
   abbrev pub search_of : Contents P → Search P
   search_of c = record {
     places = length c.table;
     numbers = numbers_of c;
-    state = cond c.opened (Some (state (nodes_of c) c.verdict c.steps)) None;
+    state = cond c.opened (Some (state_of c)) None;
   }
 
   -- How the parts fit together: this is known of every search, whatever puzzles it was handed.

@@ -1,8 +1,9 @@
 -- What the parts of a step do. Assumes nothing.
-use Rattle.std.specs.Prelude.{◌≡◌, ℕ, ◌<◌, Bool, true, false, cond, nat_lt, List, [], ◌∷◌, ◌++◌, slice_get, slice_set, Some, None, Option}
+use Rattle.std.specs.Prelude.{◌≡◌, ℕ, ◌+◌, ◌^◌, ◌<◌, Bool, true, false, cond, nat_lt, List, [], ◌∷◌, ◌++◌, slice_get, slice_set, Some, None, Option}
 use Rattle.puzzle.specs.Game.{Reached}
 use Rattle.puzzle.specs.Meaning.{Meaning}
-use Rattle.search_theory.specs.Nodes.{Node, closed, IsNew, reached_again}
+use Rattle.search_theory.specs.declared.Verdict.TheVariants.{Running}
+use Rattle.search_theory.specs.Nodes.{Node, closed, NoneOpen, IsNew, reached_again}
 use Rattle.search_theory.specs.Known.{Known}
 use Rattle.search_theory.specs.Steps.{MovePlayed, MovesPlayed, Overflows}
 use Rattle.search.specs.Contents.{Contents, nodes_of, Framed}
@@ -31,6 +32,14 @@ module _ {P : Type 0} where
   abbrev pub OfTaken : Meaning P → List (Node P) → ℕ → P → ℕ → (Node P → Type 0) → Type 0
   OfTaken m nodes place p depth Q =
       (taken : Node P) → slice_get nodes place ≡ Some (closed taken) → taken.position ≡ p → taken.depth ≡ depth → depth < 1048576 → Known m nodes → Q taken
+
+  -- what a step needs to know: the search is opened, runs, has a node that is open, and its steps can be counted on
+  pub record Ready (m : Meaning P) (c : Contents P) : Type 0 where
+    pub known : Known m (nodes_of c)
+    pub opened : c.opened ≡ true
+    pub runs : c.verdict ≡ Running
+    pub countable : c.steps + 1 < 2 ^ 64
+    pub busy : NoneOpen (nodes_of c) → ⊥
 
   module _ (m : Meaning P) (capacity place : ℕ) (taken : Node P) where
     -- a move was played from a taken node, or found no room

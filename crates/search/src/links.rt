@@ -2,7 +2,7 @@ ghost use Rattle.std.specs.Prelude.{◌≡◌, ◌<◌, ◌*◌, ◌+◌, ◌/�
 ghost use Rattle.search.specs.Contents.{link_of};
 
 /// How many move numbers a link has room for.
-const MOVES: u32 = 256;
+const MOVES_PER_LINK: u32 = 256;
 
 /// The links of the nodes, in lent numbers: from which place a node was last reached, and by which move.
 #[derive(Drop)]
@@ -25,7 +25,7 @@ impl<'a> Links<'a> {
         requires small { number < 256 }
         ensures { self.new.numbers.now ≡ slice_set self.old.numbers.now place (link_of parent number) }
     {
-        put_in(self.numbers, place, MOVES * parent + number);
+        put_in(self.numbers, place, MOVES_PER_LINK * parent + number);
     }
 
     /// The place that a node was last reached from, and by which move; 0 and 0 past the last place.
@@ -34,6 +34,6 @@ impl<'a> Links<'a> {
         ensures number { result.1 ≡ slice_index self.now.numbers.now place % 256 }
     {
         let link = self.numbers.get(place).copied().unwrap_or(0);
-        ((link / MOVES) as usize, link % MOVES)
+        ((link / MOVES_PER_LINK) as usize, link % MOVES_PER_LINK)
     }
 }

@@ -54,6 +54,19 @@ abbrev pub refusal_in : {A : Type 0} → Result A Fault → Option Fault
 refusal_in (Ok a) = None
 refusal_in (Err e) = Some e
 
+-- What an advance keeps, whatever puzzle it is handed: the search stays open, the steps are within the budget, and after
+-- a final verdict there are none.
+pub record Bears {P : Type 0} (budget : ℕ) (old : Search P) (answer : Advance) (new : Search P) : Type 0 where
+  pub places : new.places ≡ old.places
+  pub numbers : new.numbers ≡ old.numbers
+  pub opened : unopened new ≡ false
+  pub within : answer.steps ≤ budget
+  pub final : (t : State P) → old.state ≡ Some t → (t.verdict ≡ Running → ⊥) → (new ≡ old) × (answer.steps ≡ 0)
+
+-- a search is solved in n
+abbrev pub IsSolved : {P : Type 0} → Search P → ℕ → Type 0
+IsSolved {P} s n = (t : State P) × (s.state ≡ Some t) × (t.verdict ≡ Solved n)
+
 -- where a search stands
 abbrev pub report_of : {P : Type 0} → State P → Report
 report_of t = record { verdict = t.verdict; steps = t.steps; places = length t.nodes }
@@ -94,7 +107,7 @@ module _ {P : Type 0} (m : Meaning P) where
     pub written : after ≡ moves ++ drop n before
 
   abbrev pub Recites : Search P → List ℕ → Result ℕ Fault → List ℕ → Type 0
-  Recites s before (Ok n) after = (recite_refusal s (length before) ≡ None) × ((t : State P) × (s.state ≡ Some t) × (t.verdict ≡ Solved n)) × RecitesWay n before after
+  Recites s before (Ok n) after = (recite_refusal s (length before) ≡ None) × IsSolved s n × RecitesWay n before after
   Recites s before (Err e) after = (recite_refusal s (length before) ≡ Some e) × (after ≡ before)
 
 -- a call, with what it answered; of a recital also the list before and after it

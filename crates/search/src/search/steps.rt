@@ -1,13 +1,11 @@
 //! A step and its parts.
-ghost use Rattle.std.specs.Prelude.{◌≡◌, [], ◌<◌, ◌+◌, ◌^◌, true, length, nat_lt, slice_get, IfSome};
+ghost use Rattle.std.specs.Prelude.{◌≡◌, [], ◌<◌, true, length, nat_lt, slice_get, IfSome};
 ghost use Rattle.puzzle.specs.Game.{Reached};
-ghost use Rattle.search_theory.specs.declared.Verdict.TheVariants.{Running};
-ghost use Rattle.search_theory.specs.Nodes.{NoneOpen};
 ghost use Rattle.search_theory.specs.Known.{Known};
-ghost use Rattle.search_theory.specs.Steps.{state, begun, Step};
+ghost use Rattle.search_theory.specs.Steps.{begun, Step};
 ghost use Rattle.open_list.specs.Entries.{entry};
-ghost use Rattle.search.specs.Contents.{node_of, link_of, nodes_of, numbers_of, Framed};
-ghost use Rattle.search.specs.Parts.{Finds, Stored, relaxed, OfTaken, Moved, Expanded};
+ghost use Rattle.search.specs.Contents.{node_of, link_of, nodes_of, numbers_of, state_of, Framed};
+ghost use Rattle.search.specs.Parts.{Finds, Stored, relaxed, OfTaken, Ready, Moved, Expanded};
 
 use super::Search;
 use puzzle::Puzzle;
@@ -65,7 +63,7 @@ impl<'a, P: Copy> Search<'a, P> {
 
     /// Stores the start with no moves made, open; or, if it is dead, nothing, and there is no way.
     pub(crate) fn store_start<Z: Puzzle<Position = P>>(&mut self, puzzle: &Z)
-        ensures begins { nodes_of self.old ≡ [] → 0 < self.old.open_list.capacity → self.old.steps ≡ 0 → state (nodes_of self.new) self.new.verdict self.new.steps ≡ begun (Z.Puzzle.meaning puzzle.now) (length self.old.table) }
+        ensures begins { nodes_of self.old ≡ [] → 0 < self.old.open_list.capacity → self.old.steps ≡ 0 → state_of self.new ≡ begun (Z.Puzzle.meaning puzzle.now) (length self.old.table) }
         ensures table { length self.new.table ≡ length self.old.table }
         ensures numbers { numbers_of self.new ≡ numbers_of self.old }
         ensures opened { self.new.opened ≡ self.old.opened }
@@ -149,7 +147,7 @@ impl<'a, P: Copy> Search<'a, P> {
 
     /// One step: the open node that comes first is finished, or every move is played from it.
     pub(crate) fn step<Z: Puzzle<Position = P>>(&mut self, puzzle: &Z)
-        ensures steps { let m = Z.Puzzle.meaning puzzle.now in Known m (nodes_of self.old) → self.old.opened ≡ true → self.old.verdict ≡ Running → self.old.steps + 1 < 2 ^ 64 → (NoneOpen (nodes_of self.old) → ⊥) → Step m (length self.old.table) (state (nodes_of self.old) self.old.verdict self.old.steps) (state (nodes_of self.new) self.new.verdict self.new.steps) }
+        ensures steps { let m = Z.Puzzle.meaning puzzle.now in Ready m self.old → Step m (length self.old.table) (state_of self.old) (state_of self.new) }
         ensures table { length self.new.table ≡ length self.old.table }
         ensures numbers { numbers_of self.new ≡ numbers_of self.old }
         ensures opened { self.new.opened ≡ self.old.opened }

@@ -1,16 +1,17 @@
-use Rattle.std.proofs.Common.{◌≡◌, true, sym, ap, subst, refl, ◌∙◌, arith, add-one, length}
+use Rattle.std.proofs.Common.{◌≡◌, true, false, Some, None, sym, ap, subst, refl, ◌∙◌, arith, add-one, length}
 use Rattle.std.proofs.lemmas.Bool.{true≢false}
-use Rattle.search_theory.specs.Steps.{state, Step, none, next}
+use Rattle.search_theory.specs.Steps.{State, state, Step, none, next}
 use Rattle.search_theory.specs.declared.Verdict.TheVariants.{Running}
 use Rattle.search_theory.proofs.Promise.{held_steps}
-use Rattle.search.specs.Contents.{nodes_of, search_of}
+use Rattle.search.specs.Contents.{Contents, nodes_of, state_of, search_of}
+use Rattle.std.proofs.lemmas.Option.{same_Some}
 use Rattle.search.proofs.Openings.{state_as, search_as}
 use Rattle.search.proofs.Advancing.{few_steps, may_advance}
 use Rattle.search.proofs.search.Search.advance.Goals as goal
 use Rattle.search.proofs.search.Search.advance.Goals.{then-loop-steps-test+else-is_running, else-loop-steps-test}
 
 pub loop-steps-init : goal.loop-steps-init
-loop-steps-init g c = record { opened = rw (← c.self.view_is) c.if-not-self.false; table = refl; numbers = refl; within = omega arith; taken = λ served. none }
+loop-steps-init g c = record { opened = rw (← c.self.view_is) c.if-not-self.false; table = refl; numbers = refl; within = omega arith; idle = λ final. (refl, refl); taken = λ served. none }
 
 pub loop-steps-preserved : goal.loop-steps-preserved
 loop-steps-preserved g c = record {
@@ -18,6 +19,7 @@ loop-steps-preserved g c = record {
   table = c.step.ensures.table ∙ c.loop-steps.invariant.table;
   numbers = c.step.ensures.numbers ∙ c.loop-steps.invariant.numbers;
   within = omega arith;
+  idle = λ final. absurd (final (sym (ap (λ (x : Contents g.row.P.Denot). x.verdict) (c.loop-steps.invariant.idle final).0) ∙ c.if-is_running.ensures.0 refl));
   taken = λ served.
       let m = g.Z.Puzzle.meaning c.args.puzzle.now in
       let first = c.args.self.now in
@@ -27,7 +29,7 @@ loop-steps-preserved g c = record {
       let before = c.loop-steps.invariant.taken served in
       let held = held_steps m (g.met.Z.Puzzle.lawful c.args.puzzle.now) (search_of first) served (state (nodes_of first) first.verdict first.steps) (state_as first opened) c.loop-steps.steps (state (nodes_of mid) mid.verdict mid.steps) before in
       let runs : mid.verdict ≡ Running = c.if-is_running.ensures.0 refl in
-      let step = c.step.ensures.steps held.known c.loop-steps.invariant.opened runs (few_steps (length first.table) mid.steps held.few (held.unended runs)) (held.busy runs) in
+      let step = c.step.ensures.steps (record { known = held.known; opened = c.loop-steps.invariant.opened; runs = runs; countable = few_steps (length first.table) mid.steps held.few (held.unended runs); busy = held.busy runs }) in
       rw add-one (next before (subst (λ n. Step m n (state (nodes_of mid) mid.verdict mid.steps) (state (nodes_of new) new.verdict new.steps)) c.loop-steps.invariant.table step));
 }
 
@@ -52,4 +54,21 @@ returns-clause-advances g c = λ served.
         | else-loop-steps-test w ↦ (let done = w.loop-steps-test.false in let within = h.within in omega arith)
       ];
       verdict = ap (λ x. x.verdict) c.self-2.view_is;
+    }
+
+pub returns-clause-bears : goal.returns-clause-bears
+returns-clause-bears g c =
+    let first = c.args.self.now in
+    let last = c.loop-steps.self in
+    let h = c.loop-steps.invariant in
+    let opened : first.opened ≡ true = rw (← c.self.view_is) c.if-not-self.false in
+    record {
+      places = h.table;
+      numbers = h.numbers;
+      opened = ap (λ o. elim o [ Some t ↦ false | None ↦ true ]) (state_as last h.opened);
+      within = h.within;
+      final = λ t is final.
+          let same : state_of first ≡ t = same_Some (state_of first) t (sym (state_as first opened) ∙ is) in
+          let idle = h.idle (λ runs. final (ap (λ (x : State g.row.P.Denot). x.verdict) (sym same) ∙ runs)) in
+          (ap search_of idle.0, idle.1);
     }

@@ -18,7 +18,7 @@ use Rattle.search.proofs.search.Search.step.Goals.{then-not-expand, else-not-exp
 
 pub returns-in_default-clause-steps : goal.returns-in_default-clause-steps
 unfolding nodes_of
-returns-in_default-clause-steps g c = rw (← c.self.view_is) (λ known opened runs bound busy. absurd (busy (none_open_as _ _ _ _ (c.in_default.ensures))))
+returns-in_default-clause-steps g c = rw (← c.self.view_is) (λ ready. absurd (ready.busy (none_open_as _ _ _ _ (c.in_default.ensures))))
 
 pub get-from-requires : goal.get-from-requires
 get-from-requires g c =
@@ -40,7 +40,10 @@ returns-then-is_goal-clause-steps g c =
     let first = c.in-Some.ensures in
     let f = front ps es ks ls h.keyed (omega (arith, h.used, h.deep)) (omega (arith, h.used, h.linked)) place first c.get-from.result c.get-from.ensures in
     let depth : c.unwrap_or-depth.result ≡ f.node.depth = c.unwrap_or-depth.ensures ∙ ap (λ o. unwrap_or o 0) (c.depth.ensures ∙ ap (option_map (λ e. e.depth)) first.there) ∙ sym f.depth_is in
-    rw (← c.self.view_is) (λ known opened runs bound busy.
+    rw (← c.self.view_is) (λ ready.
+    let known = ready.known in
+    let runs = ready.runs in
+    let bound = ready.countable in
     let reached = subst (Reached m.game) f.position_is (known.reached place f.node f.at) in
     let finished = ap m.game.finished f.position_is ∙ sym (c.is_goal.ensures reached) ∙ c.if-is_goal.true in
     let steps : c.saturating_add-self-inside.result ≡ c.self.inside.steps + 1 = omega (arith, c.saturating_add-self-inside.ensures) in
@@ -77,7 +80,10 @@ returns-clause-steps g c =
     let capacity : c.close_first.new.self.capacity ≡ c.self.inside.open_list.capacity = after.2.capacity in
     let shut = ap (λ x. nodes_from ps x ks ls) after.2.entries ∙ f.closing after.0 after.1 in
     let size = length-nodes ps es ks ls h.keyed (omega (arith, h.used, h.deep)) (omega (arith, h.used, h.linked)) in
-    rw (← c.self.view_is) (λ known opened runs bound busy.
+    rw (← c.self.view_is) (λ ready.
+    let known = ready.known in
+    let runs = ready.runs in
+    let bound = ready.countable in
     let reached = subst (Reached m.game) f.position_is (known.reached place f.node f.at) in
     let unfinished = ap m.game.finished f.position_is ∙ sym (c.is_goal.ensures reached) ∙ c.if-is_goal.false in
     let steps : c.saturating_add-self-inside.result ≡ c.self.inside.steps + 1 = omega (arith, c.saturating_add-self-inside.ensures) in
@@ -87,7 +93,7 @@ returns-clause-steps g c =
     let old = state (nodes_from ps es ks ls) c.self.inside.verdict c.self.inside.steps in
     let at = at_place m (length ps) (nodes_from ps es ks ls) c.self.inside.verdict c.self.inside.steps runs place f.node f.taken unfinished mid new shut in
     let known_mid = subst (Known m) (sym shut) (known_closed m (nodes_from ps es ks ls) place f.node known f.at) in
-    let moves = subst (λ n. Expanded m n place f.node mid c.expand.result new) (capacity ∙ h.ready opened) (c.expand.ensures.moves f.node at f.position_is (sym depth) shallow known_mid) in
+    let moves = subst (λ n. Expanded m n place f.node mid c.expand.result new) (capacity ∙ h.ready ready.opened) (c.expand.ensures.moves f.node at f.position_is (sym depth) shallow known_mid) in
     let steps_2 : c.self-2.inside.steps ≡ c.self.inside.steps + 1 = ap (λ x. x.steps) c.self-2.view_is ∙ c.expand.ensures.frame.steps ∙ steps in
     let went = step_went m (length ps) (nodes_from ps es ks ls) c.self.inside.verdict c.self.inside.steps runs place f.node f.taken unfinished mid new shut in
     let h2 = c.self-2.invariant.sound in
