@@ -58,8 +58,8 @@ module _ {P : Type 0} (m : Meaning P) where
         → MovePlayed m capacity place taken number old new → Known m new
     known_move number old new known reached fewer below (closed_move leads same) = subst (λ ns. Known m ns) (sym same) known
     known_move number old new known reached fewer below (dead_end q leads dead same) = subst (λ ns. Known m ns) (sym same) known
-    known_move number old new known reached fewer below (no_nearer q j node leads there at near same) = subst (λ ns. Known m ns) (sym same) known
-    known_move number old new known reached fewer below (nearer q j node leads there at far same) =
+    known_move number old new known reached fewer below (no_nearer q floor j node leads alive there at near same) = subst (λ ns. Known m ns) (sym same) known
+    known_move number old new known reached fewer below (nearer q floor j node leads alive there at far same) =
         let y = reached_again node (taken.depth + 1) place number in
         let k = known_each known j node there in
         subst (λ ns. Known m ns) (sym same)
@@ -75,8 +75,8 @@ module _ {P : Type 0} (m : Meaning P) where
     pub move_longer : (number : ℕ) (old new : List (Node P)) → MovePlayed m capacity place taken number old new → length old ≤ length new
     move_longer number old new (closed_move leads same) = omega (arith, ap length same)
     move_longer number old new (dead_end q leads dead same) = omega (arith, ap length same)
-    move_longer number old new (no_nearer q j node leads there at near same) = omega (arith, ap length same)
-    move_longer number old new (nearer q j node leads there at far same) = omega (arith, ap length same, length-set old j (reached_again node (taken.depth + 1) place number))
+    move_longer number old new (no_nearer q floor j node leads alive there at near same) = omega (arith, ap length same)
+    move_longer number old new (nearer q floor j node leads alive there at far same) = omega (arith, ap length same, length-set old j (reached_again node (taken.depth + 1) place number))
     move_longer number old new (stored q floor leads fresh alive room same) = omega (arith, ap length same, length-append old (new_node m capacity q (taken.depth + 1) place number floor ∷ []))
 
     -- a played move leaves the node that it is played from as it is, since one move more is not fewer
@@ -84,8 +84,8 @@ module _ {P : Type 0} (m : Meaning P) where
         → MovePlayed m capacity place taken number old new → slice_get new place ≡ Some there
     move_leaves number old new there at low (closed_move leads same) = subst (λ ns. slice_get ns place ≡ Some there) (sym same) at
     move_leaves number old new there at low (dead_end q leads dead same) = subst (λ ns. slice_get ns place ≡ Some there) (sym same) at
-    move_leaves number old new there at low (no_nearer q j node leads stands is near same) = subst (λ ns. slice_get ns place ≡ Some there) (sym same) at
-    move_leaves number old new there at low (nearer q j node leads stands is far same) =
+    move_leaves number old new there at low (no_nearer q floor j node leads alive stands is near same) = subst (λ ns. slice_get ns place ≡ Some there) (sym same) at
+    move_leaves number old new there at low (nearer q floor j node leads alive stands is far same) =
         let y = reached_again node (taken.depth + 1) place number in
         let apart : place ≡ j → ⊥ = λ e. (let n : there ≡ node = same_Some there node (sym at ∙ ap (slice_get old) e ∙ stands) in let d : there.depth ≡ node.depth = ap (λ (z : Node P). z.depth) n in absurd (omega arith)) in
         subst (λ ns. slice_get ns place ≡ Some there) (sym same) ((put_set old j node y stands).kept place there at apart)
