@@ -71,14 +71,6 @@ module _ {P : Type 0} (m : Meaning P) where
         (known_put old (old ++ (y ∷ [])) (length old) y (put_push old y) known
         (record { reached = reached_more m.game taken.position q number reached below leads; key = refl; floor = alive; depth = omega (arith, length-append old (y ∷ [])) }))
 
-    -- a played move leaves at least as many nodes
-    pub move_longer : (number : ℕ) (old new : List (Node P)) → MovePlayed m capacity place taken number old new → length old ≤ length new
-    move_longer number old new (closed_move leads same) = omega (arith, ap length same)
-    move_longer number old new (dead_end q leads dead same) = omega (arith, ap length same)
-    move_longer number old new (no_nearer q floor j node leads alive there at near same) = omega (arith, ap length same)
-    move_longer number old new (nearer q floor j node leads alive there at far same) = omega (arith, ap length same, length-set old j (reached_again node (taken.depth + 1) place number))
-    move_longer number old new (stored q floor leads fresh alive room same) = omega (arith, ap length same, length-append old (new_node m capacity q (taken.depth + 1) place number floor ∷ []))
-
     -- a played move leaves the node that it is played from as it is, since one move more is not fewer
     pub move_leaves : (number : ℕ) (old new : List (Node P)) (there : Node P) → slice_get old place ≡ Some there → there.depth ≤ taken.depth
         → MovePlayed m capacity place taken number old new → slice_get new place ≡ Some there
@@ -109,13 +101,6 @@ module _ {P : Type 0} (m : Meaning P) where
           known = known_move number mid nodes p.known reached (omega arith) (omega arith) move;
           at = move_leaves number mid nodes there p.at (omega arith) move;
         }
-
-    -- a node that is taken is closed, and moves are played from it
-    pub known_playing : (number : ℕ) (nodes new : List (Node P)) → Known m nodes → slice_get nodes place ≡ Some taken → number ≤ m.game.count
-        → MovesPlayed m capacity place taken (slice_set nodes place (closed taken)) number new → Playing (closed taken) new
-    known_playing number nodes new known there below moves =
-        playing (closed taken) refl refl number (slice_set nodes place (closed taken)) new
-        (known_closed nodes place taken known there) ((put_set nodes place taken (closed taken) there).here) below moves
 
   -- what a search begins with is one of two states
   pub begun_cases : (capacity : ℕ) (Q : State P → Type 0)
