@@ -4,6 +4,7 @@ use Rattle.std.proofs.lemmas.Bool.{ltb-true, ltb-false, cond-true, cond-false}
 use Rattle.puzzle.specs.Meaning.{Meaning}
 use Rattle.open_list.specs.Entries.{entry}
 use Rattle.search_theory.specs.Nodes.{Node, IsNew, reached_again}
+use Rattle.search_theory.specs.Known.{Known}
 use Rattle.search_theory.specs.Steps.{new_node, MovePlayed, no_nearer, nearer, stored, Overflows}
 use Rattle.search.specs.Contents.{Contents, node_of, nodes_of, link_of}
 use Rattle.search.specs.Parts.{Finds, Stored, relaxed, Moved}
@@ -11,19 +12,22 @@ use Rattle.search.proofs.Relaxing.{link_parent, link_move}
 
 module _ {P : Type 0} (m : Meaning P) (capacity place : ℕ) (taken : Node P) (number : ℕ) (nodes : List (Node P)) (to : P) (leads : m.game.move taken.position number ≡ Some to) where
   -- the result is stored already
-  pub known_again : (j depth : ℕ) (new : List (Node P)) → depth ≡ taken.depth + 1 → Finds nodes to (Some j) → new ≡ relaxed nodes j (slice_get nodes j) depth place number
+  pub known_again : (j depth : ℕ) (new : List (Node P)) → Known m nodes → depth ≡ taken.depth + 1 → Finds nodes to (Some j) → new ≡ relaxed nodes j (slice_get nodes j) depth place number
       → MovePlayed m capacity place taken number nodes new
-  known_again j depth new deep found is =
+  known_again j depth new known deep found is =
       by_test (nat_lt depth found.0.depth) refl (is ∙ ap (λ o. relaxed nodes j o depth place number) found.1)
     where
+      alive : m.lower_bound to ≡ Some found.0.floor
+      alive = ap m.lower_bound (sym found.2) ∙ known.floor j found.0 found.1
+
       by_test : (b : Bool) → nat_lt depth found.0.depth ≡ b → new ≡ cond (nat_lt depth found.0.depth) (set nodes j (reached_again found.0 depth place number)) nodes → MovePlayed m capacity place taken number nodes new
       by_test true test same =
           let fewer = ltb-true depth found.0.depth test in
-          nearer to j found.0 leads found.1 found.2 (omega arith)
+          nearer to found.0.floor j found.0 leads alive found.1 found.2 (omega arith)
           (same ∙ cond-true (nat_lt depth found.0.depth) _ _ test ∙ ap (λ d. set nodes j (reached_again found.0 d place number)) deep)
       by_test false test same =
           let further = ltb-false depth found.0.depth test in
-          no_nearer to j found.0 leads found.1 found.2 (omega arith) (same ∙ cond-false (nat_lt depth found.0.depth) _ _ test)
+          no_nearer to found.0.floor j found.0 leads alive found.1 found.2 (omega arith) (same ∙ cond-false (nat_lt depth found.0.depth) _ _ test)
 
   -- the node that is stored for a new result
   its_node : (key depth floor : ℕ) → depth ≡ taken.depth + 1 → key ≡ m.key to → number < 256 → node_of to (entry depth floor true) key (link_of place number) ≡ new_node m capacity to (taken.depth + 1) place number floor

@@ -27,6 +27,7 @@ module _ {P : Type 0} (m : Meaning P) where
   pub record Shortest (nodes : List (Node P)) (n : ℕ) : Type 0 where
     pub least : (moves : List ℕ) → Finishes m m.game.start moves → n ≤ length moves
     pub found : (place : ℕ) (node : Node P) → Taken nodes place node → Found m nodes n place
+    pub reached : (moves : List ℕ) × (length moves ≡ n) × Finishes m m.game.start moves
     pub some_open : NoneOpen nodes → ⊥
     pub short : n < length nodes
 
@@ -50,6 +51,7 @@ module _ {P : Type 0} (m : Meaning P) where
     shortest = record {
       least = least_moves;
       found = λ i other also. subst (λ k. Found m nodes node.depth k) (taken_once nodes place i node other taken also) found_there;
+      reached = (found_there.moves, found_there.count, found_there.finish);
       short = sound.known.depth place node taken.there;
       some_open = λ shut. true≢false (sym taken.is_open ∙ shut place node taken.there);
     }

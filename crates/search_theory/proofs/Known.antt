@@ -58,8 +58,8 @@ module _ {P : Type 0} (m : Meaning P) where
         → MovePlayed m capacity place taken number old new → Known m new
     known_move number old new known reached fewer below (closed_move leads same) = subst (λ ns. Known m ns) (sym same) known
     known_move number old new known reached fewer below (dead_end q leads dead same) = subst (λ ns. Known m ns) (sym same) known
-    known_move number old new known reached fewer below (no_nearer q j node leads there at near same) = subst (λ ns. Known m ns) (sym same) known
-    known_move number old new known reached fewer below (nearer q j node leads there at far same) =
+    known_move number old new known reached fewer below (no_nearer q floor j node leads alive there at near same) = subst (λ ns. Known m ns) (sym same) known
+    known_move number old new known reached fewer below (nearer q floor j node leads alive there at far same) =
         let y = reached_again node (taken.depth + 1) place number in
         let k = known_each known j node there in
         subst (λ ns. Known m ns) (sym same)
@@ -71,21 +71,13 @@ module _ {P : Type 0} (m : Meaning P) where
         (known_put old (old ++ (y ∷ [])) (length old) y (put_push old y) known
         (record { reached = reached_more m.game taken.position q number reached below leads; key = refl; floor = alive; depth = omega (arith, length-append old (y ∷ [])) }))
 
-    -- a played move leaves at least as many nodes
-    pub move_longer : (number : ℕ) (old new : List (Node P)) → MovePlayed m capacity place taken number old new → length old ≤ length new
-    move_longer number old new (closed_move leads same) = omega (arith, ap length same)
-    move_longer number old new (dead_end q leads dead same) = omega (arith, ap length same)
-    move_longer number old new (no_nearer q j node leads there at near same) = omega (arith, ap length same)
-    move_longer number old new (nearer q j node leads there at far same) = omega (arith, ap length same, length-set old j (reached_again node (taken.depth + 1) place number))
-    move_longer number old new (stored q floor leads fresh alive room same) = omega (arith, ap length same, length-append old (new_node m capacity q (taken.depth + 1) place number floor ∷ []))
-
     -- a played move leaves the node that it is played from as it is, since one move more is not fewer
     pub move_leaves : (number : ℕ) (old new : List (Node P)) (there : Node P) → slice_get old place ≡ Some there → there.depth ≤ taken.depth
         → MovePlayed m capacity place taken number old new → slice_get new place ≡ Some there
     move_leaves number old new there at low (closed_move leads same) = subst (λ ns. slice_get ns place ≡ Some there) (sym same) at
     move_leaves number old new there at low (dead_end q leads dead same) = subst (λ ns. slice_get ns place ≡ Some there) (sym same) at
-    move_leaves number old new there at low (no_nearer q j node leads stands is near same) = subst (λ ns. slice_get ns place ≡ Some there) (sym same) at
-    move_leaves number old new there at low (nearer q j node leads stands is far same) =
+    move_leaves number old new there at low (no_nearer q floor j node leads alive stands is near same) = subst (λ ns. slice_get ns place ≡ Some there) (sym same) at
+    move_leaves number old new there at low (nearer q floor j node leads alive stands is far same) =
         let y = reached_again node (taken.depth + 1) place number in
         let apart : place ≡ j → ⊥ = λ e. (let n : there ≡ node = same_Some there node (sym at ∙ ap (slice_get old) e ∙ stands) in let d : there.depth ≡ node.depth = ap (λ (z : Node P). z.depth) n in absurd (omega arith)) in
         subst (λ ns. slice_get ns place ≡ Some there) (sym same) ((put_set old j node y stands).kept place there at apart)
@@ -109,13 +101,6 @@ module _ {P : Type 0} (m : Meaning P) where
           known = known_move number mid nodes p.known reached (omega arith) (omega arith) move;
           at = move_leaves number mid nodes there p.at (omega arith) move;
         }
-
-    -- a node that is taken is closed, and moves are played from it
-    pub known_playing : (number : ℕ) (nodes new : List (Node P)) → Known m nodes → slice_get nodes place ≡ Some taken → number ≤ m.game.count
-        → MovesPlayed m capacity place taken (slice_set nodes place (closed taken)) number new → Playing (closed taken) new
-    known_playing number nodes new known there below moves =
-        playing (closed taken) refl refl number (slice_set nodes place (closed taken)) new
-        (known_closed nodes place taken known there) ((put_set nodes place taken (closed taken) there).here) below moves
 
   -- what a search begins with is one of two states
   pub begun_cases : (capacity : ℕ) (Q : State P → Type 0)

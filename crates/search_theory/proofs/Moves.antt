@@ -71,16 +71,16 @@ module _ {P : Type 0} (m : Meaning P) (capacity place : ℕ) (taken : Node P) (s
     halfway_move new (closed_move leads same) = unchanged new same (λ q floor to alive. absurd (none-some q (sym leads ∙ to)))
     halfway_move new (dead_end q leads dead same) =
         unchanged new same (λ r floor to alive. absurd (none-some floor (sym dead ∙ (ap m.lower_bound (same_Some q r (sym leads ∙ to)) ∙ alive))))
-    halfway_move new (no_nearer q j node leads at is near same) =
-        unchanged new same (λ r floor to alive. record { place = j; node = node; at = at; same = is ∙ same_Some q r (sym leads ∙ to); near = near })
-    halfway_move new (nearer q j node leads at is far same) =
+    halfway_move new (no_nearer q floor j node leads alive at is near same) =
+        unchanged new same (λ r bound to lives. record { place = j; node = node; at = at; same = is ∙ same_Some q r (sym leads ∙ to); near = near })
+    halfway_move new (nearer q floor j node leads alive at is far same) =
         let y = reached_again node (taken.depth + 1) place number in
         let budget = half.budget in
         let room = half.room in
         subst (λ ns. MovePlayed m capacity place taken number old ns → Halfway (suc number) ns) (sym same)
         (λ move. changed (slice_set old j y) q j y leads move (improves_set old j node y at refl (omega arith)) (λ i b there of. half.sound.apart i j b node there at (of ∙ sym is))
         is refl refl refl refl (simp length-set (omega (arith, weigh_set old j node y at))) (omega (arith, length-set old j y)) (omega (arith, length-set old j y)))
-        (nearer q j node leads at is far same)
+        (nearer q floor j node leads alive at is far same)
     halfway_move new (stored q floor leads fresh alive free same) =
         let y = new_node m capacity q (taken.depth + 1) place number floor in
         let budget = half.budget in

@@ -30,6 +30,7 @@ module _ {P : Type 0} (m : Meaning P) where
       let honest = o.honest in
       record {
         shortest = λ n solved. (says_that m s.places t honest (Solved n) solved).least;
+        found = λ n solved. (says_that m s.places t honest (Solved n) solved).reached;
         recited = recited m s t is;
         short = λ n solved. (let below = (says_that m s.places t honest (Solved n) solved).short in let room = honest.room in omega arith);
         unsolvable = says_that m s.places t honest Unsolvable;

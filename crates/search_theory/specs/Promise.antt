@@ -41,8 +41,11 @@ module _ {P : Type 0} (m : Meaning P) where
 
   -- what holds of an opened search that calls for a puzzle led to
   pub record Right (calls : List Call) (s : Search P) (t : State P) : Type 0 where
-    -- solved in n: no legal moves that finish are fewer, and every recital with room for n gives n that finish
+    -- solved in n: no legal moves that finish are fewer
     pub shortest : (n : ℕ) → t.verdict ≡ Solved n → (moves : List ℕ) → Finishes m m.game.start moves → n ≤ length moves
+    -- and n legal moves finish
+    pub found : (n : ℕ) → t.verdict ≡ Solved n → (moves : List ℕ) × (length moves ≡ n) × Finishes m m.game.start moves
+    -- every recital with room for n gives n that finish
     pub recited : (n : ℕ) → t.verdict ≡ Solved n → (before after : List ℕ) (answer : Result ℕ Fault) → Recites m s before answer after → n ≤ length before
         → (answer ≡ Ok n) × RecitesWay m n before after
     -- they are fewer than the table has places

@@ -28,10 +28,10 @@ module _ {P : Type 0} (m : Meaning P) (capacity : ℕ) where
       -- a dead result is skipped
       dead_end : (q : P) → m.game.move taken.position number ≡ Some q → m.lower_bound q ≡ None → new ≡ old → MovePlayed number old new
       -- a stored result that was reached with no more moves before is skipped
-      no_nearer : (q : P) (j : ℕ) (node : Node P) → m.game.move taken.position number ≡ Some q → slice_get old j ≡ Some node → node.position ≡ q
+      no_nearer : (q : P) (floor j : ℕ) (node : Node P) → m.game.move taken.position number ≡ Some q → m.lower_bound q ≡ Some floor → slice_get old j ≡ Some node → node.position ≡ q
           → node.depth ≤ taken.depth + 1 → new ≡ old → MovePlayed number old new
       -- a stored result that was reached with more moves takes the smaller number and is open again
-      nearer : (q : P) (j : ℕ) (node : Node P) → m.game.move taken.position number ≡ Some q → slice_get old j ≡ Some node → node.position ≡ q
+      nearer : (q : P) (floor j : ℕ) (node : Node P) → m.game.move taken.position number ≡ Some q → m.lower_bound q ≡ Some floor → slice_get old j ≡ Some node → node.position ≡ q
           → taken.depth + 1 < node.depth → new ≡ slice_set old j (reached_again node (taken.depth + 1) place number) → MovePlayed number old new
       -- a new one is stored if a place is free
       stored : (q : P) (floor : ℕ) → m.game.move taken.position number ≡ Some q → IsNew old q → m.lower_bound q ≡ Some floor → length old < capacity

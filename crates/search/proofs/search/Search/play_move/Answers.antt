@@ -20,7 +20,7 @@ returns-in-Some-clause-moves g c = λ taken at position depth shallow known.
     let to = reached_more m.game c.args.from.now c.play.new.into number from few opens in
     let deep : c.saturating_add.result ≡ taken.depth + 1 = omega (arith, c.saturating_add.ensures) in
     let found = subst (Finds nodes c.play.new.into) c.in-Some.is (c.find.ensures.finds known to (c.key-key.ensures to)) in
-    known_again m c.args.self.now.open_list.capacity c.args.place taken number nodes c.play.new.into leads c.in-Some.known c.saturating_add.result (nodes_of c.relax.new.self) deep found c.relax.ensures.after
+    known_again m c.args.self.now.open_list.capacity c.args.place taken number nodes c.play.new.into leads c.in-Some.known c.saturating_add.result (nodes_of c.relax.new.self) known deep found c.relax.ensures.after
 
 pub returns-in_default-lower_bound-clause-moves : goal.returns-in_default-lower_bound-clause-moves
 returns-in_default-lower_bound-clause-moves g c = λ taken at position depth shallow known.
