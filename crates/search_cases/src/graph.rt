@@ -1,4 +1,4 @@
-//! A small graph as a puzzle, with bounds that no level has: one that a move lowers by three, and one for a dead spot.
+//! A small graph as a puzzle, with bounds that no level has: some that a move lowers by more than one, and one for a dead spot.
 ghost use Rattle.std.specs.Prelude.{◌≡◌, refl};
 ghost use Rattle.search_cases.specs.Graph.{leads, bound, meaning};
 ghost use Rattle.search_cases.specs.Lawful.{lawful};
