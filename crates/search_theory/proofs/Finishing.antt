@@ -8,7 +8,7 @@ use Rattle.search_theory.proofs.Sound.{Sound, Everywhere, open_ahead}
 use Rattle.search_theory.proofs.Trails.{trail}
 
 -- only one node is taken
-taken_once : {P : Type 0} (nodes : List (Node P)) (i j : ℕ) (a b : Node P) → Taken nodes i a → Taken nodes j b → i ≡ j
+pub taken_once : {P : Type 0} (nodes : List (Node P)) (i j : ℕ) (a b : Node P) → Taken nodes i a → Taken nodes j b → i ≡ j
 taken_once nodes i j a b one other =
     let l = one.first j b other.there other.is_open in
     let r = other.first i a one.there one.is_open in

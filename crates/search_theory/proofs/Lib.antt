@@ -7,6 +7,7 @@ pub mod Moves
 pub mod Crowds
 pub mod Finishing
 pub mod Stepping
+pub mod Unique
 pub mod Advancing
 pub mod Calling
 pub mod Promise

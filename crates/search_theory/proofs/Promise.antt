@@ -11,6 +11,7 @@ use Rattle.search_theory.specs.Promise.{Promise}
 use Rattle.search_theory.proofs.Weights.{open_weighs}
 use Rattle.search_theory.proofs.Crowds.{distinct_positions}
 use Rattle.search_theory.proofs.Stepping.{Honest, says_that}
+use Rattle.search_theory.proofs.Unique.{step_unique}
 use Rattle.search_theory.proofs.Advancing.{steps_honest, steps_idle}
 use Rattle.search_theory.proofs.Calling.{opened_run, final_run, recited}
 
@@ -46,6 +47,7 @@ module _ {P : Type 0} (m : Meaning P) where
             let same : a.first ≡ t = same_Some a.first t (sym a.from ∙ is) in
             steps_idle m s.places a.first answer.steps a.last a.steps (λ runs. final (ap (λ (x : State P). x.verdict) (sym same) ∙ runs));
         final = final_run m s t is;
+        fixed = step_unique m s.places lawful t honest;
       }
 
   -- what is known of an opened search, and after steps that it takes within one call

@@ -59,7 +59,7 @@ module _ {P : Type 0} (m : Meaning P) (capacity : ℕ) where
     }
 
     -- some of its moves are played
-    played : (number : ℕ) (nodes : List (Node P)) → number ≤ m.game.count → MovesPlayed m capacity place node (slice_set old.nodes place (closed node)) number nodes
+    pub played : (number : ℕ) (nodes : List (Node P)) → number ≤ m.game.count → MovesPlayed m capacity place node (slice_set old.nodes place (closed node)) number nodes
         → Halfway m capacity place node old.steps number nodes
     played number nodes below moves =
         halfway m capacity place node old.steps number (slice_set old.nodes place (closed node)) nodes

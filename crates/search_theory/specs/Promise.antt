@@ -6,7 +6,7 @@ use Rattle.puzzle.specs.Meaning.{Meaning, Finishes}
 use Rattle.search_theory.specs.declared.Verdict.TheVariants.{Running, Solved, Unsolvable, TableFull}
 use Rattle.search_theory.specs.declared.Advance.{Advance}
 use Rattle.search_theory.specs.Nodes.{Node}
-use Rattle.search_theory.specs.Steps.{State}
+use Rattle.search_theory.specs.Steps.{State, Step}
 use Rattle.search_theory.specs.Calls.{Search, new_search, Call, opening, advance, asking, recital, Advances, Recites, RecitesWay, Run}
 
 -- no position stands twice in a list
@@ -68,6 +68,8 @@ module _ {P : Type 0} (m : Meaning P) where
     pub idle : (t.verdict ≡ Running → ⊥) → (budget : ℕ) (answer : Advance) (last : Search P) → Advances m budget s (Ok answer) last → answer.steps ≡ 0
     -- no later call changes a final verdict or its steps
     pub final : (t.verdict ≡ Running → ⊥) → (later : List Call) (last : Search P) → Run m s later last → last ≡ s
+    -- a step has one outcome
+    pub fixed : (a b : State P) → Step m s.places t a → Step m s.places t b → a ≡ b
 
   -- For every list of calls for this puzzle on one search, new before the first.
   abbrev pub Promise : Type 0
