@@ -1,5 +1,5 @@
 -- The answer to a level's text, and what it means for the level. Assumes nothing.
-use Rattle.std.specs.Prelude.{◌≡◌, ℕ, ◌≤◌, true, List, ◌++◌, length, slice_get, Some, Ok, Err, codes}
+use Rattle.std.specs.Prelude.{◌≡◌, ℕ, ◌+◌, ◌≤◌, true, List, ◌++◌, length, slice_get, Some, Ok, Err, codes}
 use Rattle.refusals.specs.declared.Refusal.{Refusal}
 use Rattle.refusals.specs.Refusals.{refusal_text}
 use Rattle.puzzle.specs.Game.{Game, Plays, Reached}
@@ -8,6 +8,10 @@ use Rattle.atoms.specs.Level as atom
 use Rattle.levels.specs.Levels.{Level, tiles, atoms, read_level}
 use Rattle.judgement.specs.Judgement.{judged_texts}
 use Rattle.search_theory.specs.Promise.{Distinct}
+
+-- how many places the search's table has
+abbrev pub places : ℕ
+places = 2048
 
 abbrev pub none_text : List ℕ
 none_text = codes "(none)\n"
@@ -58,7 +62,7 @@ pub data Answers (text answer : List ℕ) : Type 0 where
   way : (level : Level) (n : ℕ) → read_level text ≡ Ok level → judged_texts text answer ≡ Ok n → NoFewerFor n level → Answers text answer
   -- `(none)`: no legal moves finish
   none : (level : Level) → read_level text ≡ Ok level → answer ≡ none_text → NoWayFor level → Answers text answer
-  -- `(full)`: more than 2,048 positions can be reached
-  full : (level : Level) → read_level text ≡ Ok level → answer ≡ full_text → ReachesFor 2049 level → Answers text answer
+  -- `(full)`: more positions can be reached than the table has places
+  full : (level : Level) → read_level text ≡ Ok level → answer ≡ full_text → ReachesFor (places + 1) level → Answers text answer
   -- `(fault NUMBER LINE)`: the text is no level
   fault : (e : Refusal) → read_level text ≡ Err e → answer ≡ fault_text e → Answers text answer

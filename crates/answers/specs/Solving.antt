@@ -19,4 +19,4 @@ Finds m places old TooMany new = CanReach m (places + 1)
 pub data Tells {P W : Type 0} (k : Notation P W) (answer : List ℕ) : Type 0 where
   way : (n : ℕ) → judged k answer ≡ Ok n → answers.NoFewer k.game n → Tells k answer
   none : answer ≡ answers.none_text → answers.NoWay k.game → Tells k answer
-  full : answer ≡ answers.full_text → answers.Reaches k.game 2049 → Tells k answer
+  full : answer ≡ answers.full_text → answers.Reaches k.game (answers.places + 1) → Tells k answer

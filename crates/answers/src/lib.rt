@@ -2,8 +2,8 @@
 //! text is no level.
 #![tactic(auto)]
 
-ghost use Rattle.std.specs.Prelude.{◌≡◌, length, IfOk};
-ghost use Rattle.answers.specs.Answers.{Answers};
+ghost use Rattle.std.specs.Prelude.{◌≡◌, ◌*◌, length, IfOk};
+ghost use Rattle.answers.specs.Answers.{places, Answers};
 ghost use Rattle.answers.specs.Solving.{Tells};
 
 use atoms_puzzle::BareAtomPuzzle;
@@ -46,9 +46,9 @@ fn answer_with<P: Copy, Z: Puzzle<Position = P>, K: Kind<Position = P>>(
     moves: &mut [u32],
 ) -> Result<Vec<u8>, AllocError>
     requires same { (K.Kind.notation kind.now).game ≡ (Z.Puzzle.meaning puzzle.now).game }
-    requires table { length table.old ≡ 2048 }
-    requires numbers { length numbers.old ≡ 16384 }
-    requires moves { length moves.old ≡ 2048 }
+    requires table { length table.old ≡ places }
+    requires numbers { length numbers.old ≡ 8 * places }
+    requires moves { length moves.old ≡ places }
     ensures { IfOk result (λ answer. Tells (K.Kind.notation kind.now) answer.items) }
 {
     match solve(puzzle, table, numbers, moves) {

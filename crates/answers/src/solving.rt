@@ -1,4 +1,5 @@
 ghost use Rattle.std.specs.Prelude.{◌≡◌, ◌*◌, length};
+ghost use Rattle.answers.specs.Answers.{places};
 ghost use Rattle.answers.specs.Solving.{Finds};
 
 use puzzle::Puzzle;
@@ -23,10 +24,10 @@ pub(crate) fn solve<P: Copy, Z: Puzzle<Position = P>>(
     numbers: &mut [u32],
     moves: &mut [u32],
 ) -> Found
-    requires table { length table.old ≡ 2048 }
-    requires numbers { length numbers.old ≡ 16384 }
-    requires moves { length moves.old ≡ 2048 }
-    ensures { Finds (Z.Puzzle.meaning puzzle.now) 2048 moves.old result moves.new }
+    requires table { length table.old ≡ places }
+    requires numbers { length numbers.old ≡ 8 * places }
+    requires moves { length moves.old ≡ places }
+    ensures { Finds (Z.Puzzle.meaning puzzle.now) places moves.old result moves.new }
 {
     let mut search = Search::new(table, numbers);
     search.open(puzzle).unwrap();
