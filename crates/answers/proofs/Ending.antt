@@ -10,7 +10,7 @@ use Rattle.search_theory.specs.declared.Advance.{Advance}
 use Rattle.search_theory.specs.Steps.{State}
 use Rattle.search_theory.specs.Calls.{Search, new_search, refusal_in, recite_refusal, Opens, Advances, AdvancesBy, Recites, Call, opening, advance, Run, none, then, Served}
 use Rattle.search_theory.specs.Promise.{Right, Promise, CanReach}
-use Rattle.search.proofs.Reciting.{may_recite}
+use Rattle.search_theory.proofs.Calling.{may_recite}
 use Rattle.answers.specs.declared.solving.Found.TheVariants.{Way}
 use Rattle.answers.specs.Solving.{Finds}
 

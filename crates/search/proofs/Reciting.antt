@@ -1,15 +1,11 @@
 -- The moves of a solution, written from the last to the first. Assumes nothing.
-use Rattle.std.proofs.Common.{◌≡◌, refl, sym, ap, subst, ◌∙◌, arith, ℕ, suc, ◌+◌, ◌/◌, ◌%◌, ◌<◌, ◌≤◌, List, [], ◌∷◌, ◌++◌, length, take, drop, set, get_or, slice_get, Some, None, append_assoc, append-nil, length-append, length-take}
+use Rattle.std.proofs.Common.{◌≡◌, refl, sym, ap, subst, ◌∙◌, arith, ℕ, suc, ◌+◌, ◌/◌, ◌%◌, ◌<◌, List, [], ◌∷◌, ◌++◌, length, take, drop, set, get_or, slice_get, Some, append_assoc, append-nil, length-append, length-take}
 use Rattle.std.proofs.Math.Seq.{take-suc, set-append_seam}
 use Rattle.std.proofs.lemmas.List.{take-append-drop}
 use Rattle.std.proofs.lemmas.Option.{get_or_from_slice_get}
-use Rattle.std.proofs.lemmas.Bool.{le-leb}
 use Rattle.puzzle.specs.Meaning.{Meaning, Finishes}
 use Rattle.open_list.specs.Entries.{Entry}
-use Rattle.search_theory.specs.declared.Verdict.TheVariants.{Solved}
 use Rattle.search_theory.specs.Nodes.{Node}
-use Rattle.search_theory.specs.Steps.{State}
-use Rattle.search_theory.specs.Calls.{Search, recite_refusal}
 use Rattle.search_theory.specs.Known.{Leads, start, link, Found}
 use Rattle.search.specs.Contents.{nodes_from}
 use Rattle.search.proofs.Nodes.{node_parts}
@@ -78,6 +74,3 @@ module _ {P : Type 0} (m : Meaning P) where
 
     pub reciting_more : Reciting (nodes_from ps es ks ls) parent left count old (set now left number)
     reciting_more = by_leads r.before refl r.leads
-
-pub may_recite : {P : Type 0} (s : Search P) (t : State P) (n room : ℕ) → s.state ≡ Some t → t.verdict ≡ Solved n → n ≤ room → recite_refusal s room ≡ None
-may_recite {P} s t n room opened solved enough = rw (opened, solved, le-leb n room enough) refl

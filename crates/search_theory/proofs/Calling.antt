@@ -1,14 +1,13 @@
 -- What holds of a search after each list of calls. Assumes nothing.
 use Rattle.std.proofs.Common.{◌≡◌, ℕ, ◌+◌, ◌≤◌, Bool, true, false, cond, nat_le, List, [], ◌∷◌, length, Some, None, Ok, Err, Option, Result, refl, sym, ap, subst, ◌∙◌, arith}
 use Rattle.std.proofs.lemmas.Option.{same_Some, none-some}
-use Rattle.std.proofs.lemmas.Bool.{leb-true, le-leb, and_parts, cond-true}
+use Rattle.std.proofs.lemmas.Bool.{leb-true, le-leb, and_parts}
 use Rattle.refusals.specs.declared.Fault.{Fault}
-use Rattle.refusals.specs.declared.Fault.TheVariants.{NotOpen, ShortList}
 use Rattle.puzzle.specs.Meaning.{Meaning, Lawful}
 use Rattle.search_theory.specs.declared.Verdict.TheVariants.{Running, Solved}
 use Rattle.search_theory.specs.declared.Advance.{Advance}
 use Rattle.search_theory.specs.Steps.{State, begun}
-use Rattle.search_theory.specs.Calls.{Search, new_search, with_state, unopened, open_refusal, recite_refused_as, recite_refusal, AdvancesBy, Recites, RecitesWay, Call, opening, advance, asking, recital, Happens, Run, none, then}
+use Rattle.search_theory.specs.Calls.{Search, new_search, with_state, unopened, open_refusal, recite_refusal, AdvancesBy, Recites, RecitesWay, Call, opening, advance, asking, recital, Happens, Run, none, then}
 use Rattle.search_theory.specs.Promise.{answered, granted}
 use Rattle.search_theory.proofs.Known.{begun_cases}
 use Rattle.search_theory.proofs.Stepping.{Honest, begun_honest}
@@ -104,6 +103,10 @@ module _ {P : Type 0} (m : Meaning P) (lawful : Lawful m) where
   pub opened_run : (places numbers : ℕ) (calls : List Call) (s : Search P) → Run m (new_search places numbers) calls s → (t : State P) → s.state ≡ Some t → Opened (answered calls) (granted calls) s t
   opened_run places numbers calls s run = (kept_run places numbers calls s run).opened
 
+-- a recital of a solved search is not refused where there is room
+pub may_recite : {P : Type 0} (s : Search P) (t : State P) (n room : ℕ) → s.state ≡ Some t → t.verdict ≡ Solved n → n ≤ room → recite_refusal s room ≡ None
+may_recite {P} s t n room opened solved enough = rw (opened, solved, le-leb n room enough) refl
+
 module _ {P : Type 0} (m : Meaning P) (s : Search P) (t : State P) (is : s.state ≡ Some t) where
   -- after a final verdict no call changes the search
   module _ (final : t.verdict ≡ Running → ⊥) where
@@ -127,14 +130,9 @@ module _ {P : Type 0} (m : Meaning P) (s : Search P) (t : State P) (is : s.state
 
   -- every recital of a solved search that has room gives its moves
   module _ (n : ℕ) (solved : t.verdict ≡ Solved n) where
-    recital_granted : (room : ℕ) → n ≤ room → recite_refusal s room ≡ None
-    recital_granted room enough =
-        ap (λ o. elim o [ Some z ↦ recite_refused_as z.verdict room | None ↦ Some NotOpen ]) is
-        ∙ (ap (λ v. recite_refused_as v room) solved ∙ cond-true (nat_le n room) None (Some ShortList) (le-leb n room enough))
-
     recital_solved : (k : ℕ) (z : State P) → s.state ≡ Some z → z.verdict ≡ Solved k → k ≡ n
     recital_solved k z at other = let same : t ≡ z = same_Some t z (sym is ∙ at) in let v : t.verdict ≡ z.verdict = ap (λ (x : State P). x.verdict) same in cc
 
     pub recited : (before after : List ℕ) (answer : Result ℕ Fault) → Recites m s before answer after → n ≤ length before → (answer ≡ Ok n) × RecitesWay m n before after
     recited before after (Ok k) r enough = let same = recital_solved k r.1.0 r.1.1 r.1.2 in (ap Ok same, subst (λ z. RecitesWay m z before after) same r.2)
-    recited before after (Err e) r enough = absurd (none-some e (sym (recital_granted (length before) enough) ∙ r.0))
+    recited before after (Err e) r enough = absurd (none-some e (sym (may_recite s t n (length before) is solved enough) ∙ r.0))

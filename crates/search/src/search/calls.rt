@@ -77,6 +77,7 @@ impl<'a, P: Copy> Search<'a, P> {
         if self.opened {
             return Err(Fault::AlreadyOpen);
         }
+        // Both have as many numbers as they need, since the whole list has.
         self.open_list.start(places);
         self.index.start(places);
         self.opened = true;
@@ -140,13 +141,14 @@ impl<'a, P: Copy> Search<'a, P> {
     /// Writes the moves of a shortest way to the front of a list, and answers how many they are.
     ///
     /// Refused where the search has not been opened, where it is not solved, or where the list is too short. Handed
-    /// another puzzle than the opened one, it ends safely, and its answer is free.
+    /// another puzzle than the opened one, it ends safely, and its answer is free. The puzzle is asked nothing: it is what
+    /// the promise speaks of.
     pub fn solution<Z: Puzzle<Position = P>>(
         &self,
-        _puzzle: &Z,
+        puzzle: &Z,
         moves: &mut [u32],
     ) -> Result<usize, Fault>
-        ensures recites { let m = Z.Puzzle.meaning _puzzle.now in Served m (search_of self.now) → Recites m (search_of self.now) moves.old result moves.new }
+        ensures recites { let m = Z.Puzzle.meaning puzzle.now in Served m (search_of self.now) → Recites m (search_of self.now) moves.old result moves.new }
         ensures solved { IfOk result (IsSolved (search_of self.now)) }
         ensures refused { refusal_in result ≡ recite_refusal (search_of self.now) (length moves.old) }
         ensures same { OnErr result (moves.new ≡ moves.old) }

@@ -29,7 +29,7 @@ impl Reach {
 }
 
 impl<'a, P: Copy> Search<'a, P> {
-    /// The place of the node that holds a position.
+    // The place of the node that holds a position.
     fn find<Z: Puzzle<Position = P>>(&self, puzzle: &Z, position: &P, key: u32) -> Option<usize>
         ensures inside { IfSome result (λ place. place < length self.now.open_list.entries) }
         ensures finds { let m = Z.Puzzle.meaning puzzle.now in Known m (nodes_of self.now) → Reached m.game position.now → key ≡ m.key position.now → Finds (nodes_of self.now) position.now result }
@@ -55,6 +55,7 @@ impl<'a, P: Copy> Search<'a, P> {
         if !self.open_list.push(reach.depth, floor) {
             return false;
         }
+        // The index has room where the open list has.
         self.index.push(key);
         self.table.put(place, position);
         self.links.put(place, reach.parent, reach.number);
@@ -74,10 +75,11 @@ impl<'a, P: Copy> Search<'a, P> {
             return;
         };
         self.verdict = Verdict::Running;
+        // The first place is free.
         self.store(start, puzzle.key(&start), floor, Reach::AT_START);
     }
 
-    /// A stored node was reached again: with fewer moves, it takes them and is open.
+    // A stored node was reached again: with fewer moves, it takes them and is open.
     fn relax(&mut self, place: usize, reach: Reach)
         requires parent { reach.parent < 1048576 }
         requires number { reach.number < 256 }
@@ -89,7 +91,7 @@ impl<'a, P: Copy> Search<'a, P> {
         }
     }
 
-    /// Plays a move from the node at a place, and answers whether there was room for where it leads.
+    // Plays a move from the node at a place, and answers whether there was room for where it leads.
     fn play_move<Z: Puzzle<Position = P>>(
         &mut self,
         puzzle: &Z,
@@ -124,7 +126,7 @@ impl<'a, P: Copy> Search<'a, P> {
         self.store(to, key, floor, reach)
     }
 
-    /// Plays every move from the node at a place, and answers whether there was room.
+    // Plays every move from the node at a place, and answers whether there was room.
     fn expand<Z: Puzzle<Position = P>>(
         &mut self,
         puzzle: &Z,

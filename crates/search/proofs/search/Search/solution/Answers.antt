@@ -11,14 +11,14 @@ use Rattle.search.proofs.search.Search.solution.Goals as goal
 pub loop-left-init : goal.loop-left-init
 unfolding nodes_of
 loop-left-init g c =
-    let m = g.Z.Puzzle.meaning c.args._puzzle.now in
+    let m = g.Z.Puzzle.meaning c.args.puzzle.now in
     let v = c.self.inside in
     let h = c.self.invariant.sound in
     rw (← c.self.view_is) (record {
       within = omega arith;
       reciting = λ served.
           let t = state (nodes_of (contents v)) v.verdict v.steps in
-          let known = held m (g.met.Z.Puzzle.lawful c.args._puzzle.now) (search_of (contents v)) served t (state_as (contents v) c.if-not-self.false) in
+          let known = held m (g.met.Z.Puzzle.lawful c.args.puzzle.now) (search_of (contents v)) served t (state_as (contents v) c.if-not-self.false) in
           let found = found_first m (length v.table.places.now) v.table.places.now v.open_list.entries v.index.keys v.links.numbers.now h.keyed (omega (arith, h.used, h.deep)) (omega (arith, h.used, h.linked))
           c.in-Solved.count c.unwrap_or-place.result c.first.result c.first.ensures c.unwrap_or-place.ensures (known.shown c.in-Solved.count c.in-Solved.is) (known.found c.in-Solved.count c.in-Solved.is) in
           reciting_begins m (nodes_of (contents v)) c.unwrap_or-place.result c.in-Solved.count c.args.moves.now found;
@@ -27,7 +27,7 @@ loop-left-init g c =
 pub loop-left-preserved : goal.loop-left-preserved
 unfolding nodes_of
 loop-left-preserved g c =
-    let m = g.Z.Puzzle.meaning c.args._puzzle.now in
+    let m = g.Z.Puzzle.meaning c.args.puzzle.now in
     let v = c.self.inside in
     let within = c.loop-left.invariant.within in
     let again : c.loop-left.left ≡ suc (c.loop-left.left - 1) = omega arith in

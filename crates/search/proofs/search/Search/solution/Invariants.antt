@@ -9,7 +9,7 @@ abbrev pub invariant-loop-left : goal.invariant-loop-left
 invariant-loop-left g l = record {
   within : l.left ≤ l.count;
   reciting : (
-      let m = g.Z.Puzzle.meaning l._puzzle in
+      let m = g.Z.Puzzle.meaning l.puzzle in
       Served m (search_of l.self) → Reciting m (nodes_of l.self) l.place l.left l.count l.fn.moves l.moves
       );
 }
