@@ -3,13 +3,14 @@ use Rattle.std.proofs.Common.{◌≡◌, refl, sym, ap, subst, ◌∙◌, arith,
 use Rattle.std.specs.Result.{IsOk}
 use Rattle.std.proofs.lemmas.Option.{same_Some, none-some}
 use Rattle.refusals.specs.declared.Fault.{Fault}
-use Rattle.puzzle.specs.Meaning.{Meaning, Finishes}
+use Rattle.puzzle.specs.Game.{Finishes, CanReach}
+use Rattle.puzzle.specs.Meaning.{Meaning}
 use Rattle.search_theory.specs.declared.Verdict.{Verdict}
 use Rattle.search_theory.specs.declared.Verdict.TheVariants.{Running, Solved, Unsolvable, TableFull}
 use Rattle.search_theory.specs.declared.Advance.{Advance}
 use Rattle.search_theory.specs.Steps.{State}
 use Rattle.search_theory.specs.Calls.{Search, new_search, refusal_in, recite_refusal, Opens, Advances, AdvancesBy, Recites, Call, opening, advance, Run, none, then, Served}
-use Rattle.search_theory.specs.Promise.{Right, Promise, CanReach}
+use Rattle.search_theory.specs.Promise.{Right, Promise}
 use Rattle.search_theory.proofs.Calling.{may_recite}
 use Rattle.answers.specs.declared.solving.Found.TheVariants.{Way}
 use Rattle.answers.specs.Solving.{Finds}
@@ -58,11 +59,11 @@ module _ {P : Type 0} (m : Meaning P) (first opened : Search P) (places numbers 
         let few : advances.last.steps < places * places = subst (λ n. advances.last.steps < n * n) places_are (right.ends (verdict_is Running runs)) in
         omega arith
 
-    nothing_solves : answer.verdict ≡ Unsolvable → (moves : List ℕ) → Finishes m m.game.start moves → ⊥
+    nothing_solves : answer.verdict ≡ Unsolvable → (moves : List ℕ) → Finishes m.game m.game.start moves → ⊥
     nothing_solves is = right.unsolvable (verdict_is Unsolvable is)
 
-    too_many : answer.verdict ≡ TableFull → CanReach m (places + 1)
-    too_many is = subst (λ n. CanReach m (n + 1)) places_are (right.full (verdict_is TableFull is))
+    too_many : answer.verdict ≡ TableFull → CanReach m.game (places + 1)
+    too_many is = subst (λ n. CanReach m.game (n + 1)) places_are (right.full (verdict_is TableFull is))
 
     -- a list of as many numbers as places has room for the moves
     recited : (n room : ℕ) → answer.verdict ≡ Solved n → places ≤ room → recite_refusal last room ≡ None
@@ -80,8 +81,8 @@ module _ {P : Type 0} (m : Meaning P) (first opened : Search P) (places numbers 
 pub record Ended {P : Type 0} (m : Meaning P) (places : ℕ) (verdict : Verdict) (last : Search P) : Type 0 where
   pub served : Served m last
   pub final : verdict ≡ Running → ⊥
-  pub nothing_solves : verdict ≡ Unsolvable → (moves : List ℕ) → Finishes m m.game.start moves → ⊥
-  pub too_many : verdict ≡ TableFull → CanReach m (places + 1)
+  pub nothing_solves : verdict ≡ Unsolvable → (moves : List ℕ) → Finishes m.game m.game.start moves → ⊥
+  pub too_many : verdict ≡ TableFull → CanReach m.game (places + 1)
   pub recited : (n room : ℕ) → verdict ≡ Solved n → places ≤ room → recite_refusal last room ≡ None
   pub solves : (n : ℕ) (before after : List ℕ) → Recites m last before (Ok n) after → Finds m places before (Way n) after
 

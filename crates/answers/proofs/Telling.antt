@@ -2,10 +2,9 @@
 use Rattle.std.proofs.Common.{◌≡◌, refl, sym, ap, subst, ◌∙◌, arith, ℕ, ◌+◌, ◌≤◌, Bool, true, false, nat_lt, List, [], ◌∷◌, ◌++◌, length, take, drop, Some, None, Ok, Err, length-append}
 use Rattle.std.proofs.Math.Seq.{take-append_seam}
 use Rattle.std.proofs.lemmas.Bool.{lt-ltb, cond-true}
-use Rattle.puzzle.specs.Game.{Game, Plays, here, then, Solves, solved, step}
-use Rattle.puzzle.specs.Meaning.{Meaning, Finishes}
+use Rattle.puzzle.specs.Game.{Plays, here, then, Solves, solved, step, Finishes}
+use Rattle.puzzle.specs.Meaning.{Meaning}
 use Rattle.search_theory.specs.Calls.{RecitesWay}
-use Rattle.search_theory.specs.Promise.{CanReach}
 use Rattle.puzzle.proofs.Reaching.{plays_more}
 use Rattle.ways.specs.Kinds.{Notation, Lawful}
 use Rattle.ways.specs.Judging.{judged}
@@ -18,7 +17,7 @@ use Rattle.atoms_ways.specs.Moves.{atom_notation}
 use Rattle.levels.specs.Levels.{tiles, atoms, read_level}
 use Rattle.judgement.specs.Judgement.{judged_for}
 use Rattle.answers.specs.Answers as answers
-use Rattle.answers.specs.Answers.{Finish, NoFewer, Answers}
+use Rattle.answers.specs.Answers.{NoFewer, Answers}
 use Rattle.answers.specs.Solving.{Tells, way, none, full}
 
 module _ {P W : Type 0} (k : Notation P W) where
@@ -29,12 +28,12 @@ module _ {P W : Type 0} (k : Notation P W) where
       let open_move : opened k p m ≡ Some r = cond-true (nat_lt m k.game.count) _ _ (lt-ltb m k.game.count below) ∙ leads in
       ap (λ o. elim o [ Some x ↦ played_from k x (n + 1) moves | None ↦ Err n ]) open_move ∙ played (n + 1) r q moves more
 
-  pub playable : (moves : List ℕ) → Finish k.game moves → Playable k moves
+  pub playable : (moves : List ℕ) → Finishes k.game k.game.start moves → Playable k moves
   playable moves f = ap (checked_as k) (played 2 k.game.start f.last moves f.plays)
 
   -- Of moves that finish, none of which could be left out at the end, none passes a finished position.
   unpassed : (p last : P) (before moves : List ℕ) → Plays k.game k.game.start before p → Plays k.game p moves last → k.game.finished last ≡ true
-      → ((other : List ℕ) → Finish k.game other → length before + length moves ≤ length other) → Solves k.game p moves
+      → ((other : List ℕ) → Finishes k.game k.game.start other → length before + length moves ≤ length other) → Solves k.game p moves
   unpassed p last before [] led here fin least = solved fin
   unpassed p last before (m ∷ moves) led (then {q = q} below leads more) fin least =
       by_finished (k.game.finished p) refl
@@ -45,31 +44,15 @@ module _ {P W : Type 0} (k : Notation P W) where
       by_finished true is rest = absurd (let enough = least before (record { last = p; plays = led; finished = is }) in omega arith)
       by_finished false is rest = step is below leads rest
 
-  pub solves : (moves : List ℕ) → Finish k.game moves → NoFewer k.game (length moves) → Solves k.game k.game.start moves
+  pub solves : (moves : List ℕ) → Finishes k.game k.game.start moves → NoFewer k.game (length moves) → Solves k.game k.game.start moves
   solves moves f least = unpassed k.game.start f.last [] moves here f.plays f.finished (λ other g. (let enough = least other g in omega arith))
 
   -- the text of a shortest way
-  pub tells_way : Lawful k → (n : ℕ) (moves text : List ℕ) → length moves ≡ n → n ≤ 9999999 → Finish k.game moves → NoFewer k.game n → text ≡ way_text k moves → Tells k text
+  pub tells_way : Lawful k → (n : ℕ) (moves text : List ℕ) → length moves ≡ n → n ≤ 9999999 → Finishes k.game k.game.start moves → NoFewer k.game n → text ≡ way_text k moves → Tells k text
   tells_way lawful n moves text size few f least is =
       way n
       (ap (judged k) is ∙ writes_accepted k lawful moves (solves moves f (subst (NoFewer k.game) (sym size) least)) (rw size few) ∙ ap Ok size)
       least
-
-module _ {P : Type 0} (m : Meaning P) (g : Game P) (same : g ≡ m.game) where
-  pub finish_as : (moves : List ℕ) → Finishes m m.game.start moves → Finish g moves
-  finish_as moves f = subst (λ x. Finish x moves) (sym same) (record { last = f.last; plays = f.plays; finished = f.finished })
-
-  finishes_as : (moves : List ℕ) → Finish g moves → Finishes m m.game.start moves
-  finishes_as moves f = (let h = subst (λ x. Finish x moves) same f in record { last = h.last; plays = h.plays; finished = h.finished })
-
-  pub no_fewer : (n : ℕ) → ((moves : List ℕ) → Finishes m m.game.start moves → n ≤ length moves) → NoFewer g n
-  no_fewer n least moves f = least moves (finishes_as moves f)
-
-  pub no_way : ((moves : List ℕ) → Finishes m m.game.start moves → ⊥) → answers.NoWay g
-  no_way never moves f = never moves (finishes_as moves f)
-
-  pub reaches : (n : ℕ) → CanReach m n → answers.Reaches g n
-  reaches n c = subst (λ x. answers.Reaches x n) (sym same) (record { positions = c.positions; many = c.many; distinct = c.distinct; reached = c.reached })
 
 -- the front of the list that was recited into
 pub recited_front : {P : Type 0} (m : Meaning P) (n : ℕ) (before after : List ℕ) → (r : RecitesWay m n before after) → take n after ≡ r.moves

@@ -1,13 +1,12 @@
 -- The answer to a level's text, and what it means for the level. Assumes nothing.
-use Rattle.std.specs.Prelude.{◌≡◌, ℕ, ◌+◌, ◌≤◌, true, List, ◌++◌, length, slice_get, Some, Ok, Err, codes}
+use Rattle.std.specs.Prelude.{◌≡◌, ℕ, ◌+◌, ◌≤◌, List, ◌++◌, length, Ok, Err, codes}
 use Rattle.refusals.specs.declared.Refusal.{Refusal}
 use Rattle.refusals.specs.Refusals.{refusal_text}
-use Rattle.puzzle.specs.Game.{Game, Plays, Reached}
+use Rattle.puzzle.specs.Game.{Game, Finishes, CanReach}
 use Rattle.tiles.specs.Level as tile
 use Rattle.atoms.specs.Level as atom
 use Rattle.levels.specs.Levels.{Level, tiles, atoms, read_level}
 use Rattle.judgement.specs.Judgement.{judged_texts}
-use Rattle.search_theory.specs.Promise.{Distinct}
 
 -- how many places the search's table has
 abbrev pub places : ℕ
@@ -23,24 +22,13 @@ abbrev pub fault_text : Refusal → List ℕ
 fault_text e = refusal_text e ++ codes "\n"
 
 module _ {P : Type 0} (g : Game P) where
-  -- legal moves that finish
-  pub record Finish (moves : List ℕ) : Type 0 where
-    pub last : P
-    pub plays : Plays g g.start moves last
-    pub finished : g.finished last ≡ true
-
+  -- no legal moves that finish are fewer
   abbrev pub NoFewer : ℕ → Type 0
-  NoFewer n = (moves : List ℕ) → Finish moves → n ≤ length moves
+  NoFewer n = (moves : List ℕ) → Finishes g g.start moves → n ≤ length moves
 
+  -- no legal moves finish
   abbrev pub NoWay : Type 0
-  NoWay = (moves : List ℕ) → Finish moves → ⊥
-
-  -- so many positions can be reached, all different
-  pub record Reaches (n : ℕ) : Type 0 where
-    pub positions : List P
-    pub many : length positions ≡ n
-    pub distinct : Distinct positions
-    pub reached : (i : ℕ) (p : P) → slice_get positions i ≡ Some p → Reached g p
+  NoWay = (moves : List ℕ) → Finishes g g.start moves → ⊥
 
 -- the same for a level, by its kind
 
@@ -53,8 +41,8 @@ NoWayFor (tiles l) = NoWay (tile.game l)
 NoWayFor (atoms l) = NoWay (atom.game l)
 
 abbrev pub ReachesFor : ℕ → Level → Type 0
-ReachesFor n (tiles l) = Reaches (tile.game l) n
-ReachesFor n (atoms l) = Reaches (atom.game l) n
+ReachesFor n (tiles l) = CanReach (tile.game l) n
+ReachesFor n (atoms l) = CanReach (atom.game l) n
 
 -- What the answer to a text is.
 pub data Answers (text answer : List ℕ) : Type 0 where

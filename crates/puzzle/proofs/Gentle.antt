@@ -1,7 +1,7 @@
 -- A bound that one move lowers by at most one is at most the length of every way to the finish. Assumes nothing.
 use Rattle.std.proofs.Common.{◌≡◌, ℕ, suc, ◌+◌, ◌≤◌, true, List, [], ◌∷◌, length, Some, None, Option, refl, ap, ◌∙◌, arith}
-use Rattle.puzzle.specs.Game.{Plays, Reached, here, then}
-use Rattle.puzzle.specs.Meaning.{Meaning, Finishes}
+use Rattle.puzzle.specs.Game.{Plays, Reached, here, then, Finishes}
+use Rattle.puzzle.specs.Meaning.{Meaning}
 use Rattle.puzzle.specs.Gentle.{Gentle, Move}
 use Rattle.puzzle.proofs.Reaching.{reached_more}
 
@@ -23,13 +23,13 @@ module _ {P : Type 0} (m : Meaning P) (gentle : Gentle m) where
       (record { reached = reached; number = n; below = below; leads = leads }) refl refl
       (plays_admit r q ns (reached_more m.game p r n reached below leads) rest finished)
 
-  admits : (p : P) (moves : List ℕ) → Reached m.game p → Finishes m p moves → Admits (m.lower_bound p) (length moves)
+  admits : (p : P) (moves : List ℕ) → Reached m.game p → Finishes m.game p moves → Admits (m.lower_bound p) (length moves)
   admits p moves reached way = plays_admit p way.last moves reached way.plays way.finished
 
-  pub gentle_bounded : (p : P) → Reached m.game p → (n : ℕ) → m.lower_bound p ≡ Some n → (moves : List ℕ) → Finishes m p moves → n ≤ length moves
+  pub gentle_bounded : (p : P) → Reached m.game p → (n : ℕ) → m.lower_bound p ≡ Some n → (moves : List ℕ) → Finishes m.game p moves → n ≤ length moves
   gentle_bounded p reached n is moves way = rw is at (admits p moves reached way)
 
-  pub gentle_dead : (p : P) → Reached m.game p → m.lower_bound p ≡ None → (moves : List ℕ) → Finishes m p moves → ⊥
+  pub gentle_dead : (p : P) → Reached m.game p → m.lower_bound p ≡ None → (moves : List ℕ) → Finishes m.game p moves → ⊥
   gentle_dead p reached is moves way = rw is at (admits p moves reached way)
 
 -- no position is dead, and a number that one move lowers by at most one is the bound of each

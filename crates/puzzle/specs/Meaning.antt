@@ -1,6 +1,6 @@
 -- What a puzzle means to a search, and the law that it has to keep. Assumes nothing.
 use Rattle.std.specs.Prelude.{◌≡◌, ℕ, ◌≤◌, ◌↔◌, Bool, true, List, length, Some, None, Option}
-use Rattle.puzzle.specs.Game.{Game, Plays, Reached}
+use Rattle.puzzle.specs.Game.{Game, Reached, Finishes}
 
 pub record Meaning (P : Type 0) : Type 0 where
   pub game : Game P
@@ -11,18 +11,12 @@ pub record Meaning (P : Type 0) : Type 0 where
   pub same : P → P → Bool
 
 module _ {P : Type 0} (m : Meaning P) where
-  -- moves from a position to a finished one
-  pub record Finishes (p : P) (moves : List ℕ) : Type 0 where
-    pub last : P
-    pub plays : Plays m.game p moves last
-    pub finished : m.game.finished last ≡ true
-
   -- the law of a puzzle; it concerns positions that can be reached
   pub record Lawful : Type 0 where
     pub some : 1 ≤ m.game.count
     pub few : m.game.count ≤ 256
     -- a bound that is a number is at most the length of every way to the finish
-    pub bounded : (p : P) → Reached m.game p → (n : ℕ) → m.lower_bound p ≡ Some n → (moves : List ℕ) → Finishes p moves → n ≤ length moves
+    pub bounded : (p : P) → Reached m.game p → (n : ℕ) → m.lower_bound p ≡ Some n → (moves : List ℕ) → Finishes m.game p moves → n ≤ length moves
     -- from a dead position there is no such way
-    pub dead : (p : P) → Reached m.game p → m.lower_bound p ≡ None → (moves : List ℕ) → Finishes p moves → ⊥
+    pub dead : (p : P) → Reached m.game p → m.lower_bound p ≡ None → (moves : List ℕ) → Finishes m.game p moves → ⊥
     pub alike : (p q : P) → Reached m.game p → Reached m.game q → (m.same p q ≡ true) ↔ (p ≡ q)

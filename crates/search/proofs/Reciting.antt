@@ -3,7 +3,8 @@ use Rattle.std.proofs.Common.{◌≡◌, refl, sym, ap, subst, ◌∙◌, arith,
 use Rattle.std.proofs.Math.Seq.{take-suc, set-append_seam}
 use Rattle.std.proofs.lemmas.List.{take-append-drop}
 use Rattle.std.proofs.lemmas.Option.{get_or_from_slice_get}
-use Rattle.puzzle.specs.Meaning.{Meaning, Finishes}
+use Rattle.puzzle.specs.Game.{Finishes}
+use Rattle.puzzle.specs.Meaning.{Meaning}
 use Rattle.open_list.specs.Entries.{Entry}
 use Rattle.search_theory.specs.Nodes.{Node}
 use Rattle.search_theory.specs.Known.{Leads, start, link, Found}
@@ -30,7 +31,7 @@ module _ {P : Type 0} (m : Meaning P) where
     pub leads : Leads nodes place before
     pub left_is : length before ≡ left
     pub count_is : length before + length rest ≡ count
-    pub finish : Finishes m m.game.start (before ++ rest)
+    pub finish : Finishes m.game m.game.start (before ++ rest)
     pub written_is : now ≡ written left count rest old
 
   pub reciting_begins : (nodes : List (Node P)) (place count : ℕ) (old : List ℕ) → Found m nodes count place → Reciting nodes place count count old old
@@ -40,7 +41,7 @@ module _ {P : Type 0} (m : Meaning P) where
     leads = found.leads;
     left_is = found.count;
     count_is = (let count = found.count in omega arith);
-    finish = subst (Finishes m m.game.start) (sym (append-nil found.moves)) found.finish;
+    finish = subst (Finishes m.game m.game.start) (sym (append-nil found.moves)) found.finish;
     written_is = sym (take-append-drop count old);
   }
 
@@ -64,7 +65,7 @@ module _ {P : Type 0} (m : Meaning P) where
           leads = subst (λ k. Leads (nodes_from ps es ks ls) k before) parents leads;
           left_is = omega arith;
           count_is = omega arith;
-          finish = subst (Finishes m m.game.start) (ap (λ xs. xs ++ r.rest) all ∙ append_assoc before (number ∷ []) r.rest) r.finish;
+          finish = subst (Finishes m.game m.game.start) (ap (λ xs. xs ++ r.rest) all ∙ append_assoc before (number ∷ []) r.rest) r.finish;
           written_is = ap (λ xs. set xs left number) r.written_is ∙ written_more old left count number r.rest inside;
         }
 

@@ -2,8 +2,8 @@
 use Rattle.std.specs.Prelude.{◌≡◌, ℕ, zero, suc, ◌+◌, ◌≤◌, List, [], ◌∷◌, length, slice_get, Some, None, Option}
 use Rattle.std.proofs.Common.{refl, ap, arith}
 use denote.Enum.Bare.{same_true, true_same}
-use Rattle.puzzle.specs.Game.{Reached}
-use Rattle.puzzle.specs.Meaning.{Meaning, Finishes, Lawful}
+use Rattle.puzzle.specs.Game.{Reached, Finishes}
+use Rattle.puzzle.specs.Meaning.{Meaning, Lawful}
 use Rattle.puzzle.specs.Gentle.{Move, Gentle}
 use Rattle.puzzle.proofs.Gentle.{gentle_bounded, gentle_dead}
 use Rattle.search_cases.specs.contracts.graph.Spot.{the_type}
@@ -89,10 +89,10 @@ module _ (start : Spot) where
     dead = λ p q move dead. stays_dead _ (far p) (far q) (near p q move) dead;
   }
 
-  way_there : (p : Spot) (moves : List ℕ) → Finishes (meaning start) p moves → Finishes exact p moves
+  way_there : (p : Spot) (moves : List ℕ) → Finishes (meaning start).game p moves → Finishes exact.game p moves
   way_there p moves way = record { last = way.last; plays = way.plays; finished = way.finished }
 
-  at_most : (p : Spot) → Reached exact.game p → (moves : List ℕ) → Finishes (meaning start) p moves → (b d : Option ℕ) → bound p ≡ b → far p ≡ d → Below b d → (n : ℕ) → b ≡ Some n → n ≤ length moves
+  at_most : (p : Spot) → Reached exact.game p → (moves : List ℕ) → Finishes (meaning start).game p moves → (b d : Option ℕ) → bound p ≡ b → far p ≡ d → Below b d → (n : ℕ) → b ≡ Some n → n ≤ length moves
   at_most p reached moves way (Some k) (Some d) is far_is below n same =
       let less = gentle_bounded exact gentle p reached d far_is moves (way_there p moves way) in
       let one : k ≡ n = cc in

@@ -2,12 +2,11 @@
 use Rattle.std.proofs.Common.{◌≡◌, ℕ, zero, suc, ◌+◌, ◌<◌, ◌≤◌, List, ◌∷◌, map, length, slice_get, Some, refl, sym, ap, subst, ◌∙◌, arith}
 use Rattle.std.proofs.lemmas.Option.{same_Some}
 use Rattle.std.proofs.lemmas.List.{length-map}
-use Rattle.puzzle.specs.Game.{Reached}
+use Rattle.puzzle.specs.Game.{Reached, Distinct, CanReach}
 use Rattle.puzzle.specs.Meaning.{Meaning}
 use Rattle.search_theory.specs.Nodes.{Node}
 use Rattle.search_theory.specs.Steps.{Overflows}
 use Rattle.search_theory.specs.Known.{Known}
-use Rattle.search_theory.specs.Promise.{Distinct, CanReach}
 use Rattle.search_theory.proofs.Places.{get_map}
 use Rattle.puzzle.proofs.Reaching.{reached_more}
 use Rattle.search_theory.proofs.Sound.{Apart}
@@ -41,7 +40,7 @@ module _ {P : Type 0} (m : Meaning P) (capacity place number : ℕ) (taken : Nod
   reached_each zero p at = subst (λ q. Reached m.game q) (same_Some over.result p at) (reached_more m.game taken.position over.result number from below over.leads)
   reached_each (suc i) p at = let a = holder nodes i p at in subst (λ q. Reached m.game q) a.2 (known.reached i a.0 a.1)
 
-  pub crowd : Apart nodes → length nodes ≤ capacity → CanReach m (capacity + 1)
+  pub crowd : Apart nodes → length nodes ≤ capacity → CanReach m.game (capacity + 1)
   crowd apart room = record {
     positions = over.result ∷ positions nodes;
     many = (let full = over.full in omega (arith, length-map nodes (λ (n : Node P). n.position)));

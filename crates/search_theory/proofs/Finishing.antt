@@ -1,6 +1,7 @@
 -- The node that is taken and finished was reached with the fewest moves. Assumes nothing.
 use Rattle.std.proofs.Common.{◌≡◌, ℕ, ◌<◌, ◌≤◌, true, List, length, sym, subst, ◌∙◌, arith}
-use Rattle.puzzle.specs.Meaning.{Meaning, Finishes, Lawful}
+use Rattle.puzzle.specs.Game.{Finishes}
+use Rattle.puzzle.specs.Meaning.{Meaning, Lawful}
 use Rattle.std.proofs.lemmas.Bool.{true≢false}
 use Rattle.search_theory.specs.Nodes.{Node, sum, Taken, NoneOpen}
 use Rattle.search_theory.specs.Known.{Found}
@@ -25,14 +26,14 @@ taken_once nodes i j a b one other =
 module _ {P : Type 0} (m : Meaning P) where
   -- no moves that finish are fewer, and the links of the node that is taken lead along as many
   pub record Shortest (nodes : List (Node P)) (n : ℕ) : Type 0 where
-    pub least : (moves : List ℕ) → Finishes m m.game.start moves → n ≤ length moves
+    pub least : (moves : List ℕ) → Finishes m.game m.game.start moves → n ≤ length moves
     pub found : (place : ℕ) (node : Node P) → Taken nodes place node → Found m nodes n place
-    pub reached : (moves : List ℕ) × (length moves ≡ n) × Finishes m m.game.start moves
+    pub reached : (moves : List ℕ) × (length moves ≡ n) × Finishes m.game m.game.start moves
     pub some_open : NoneOpen nodes → ⊥
     pub short : n < length nodes
 
   module _ (lawful : Lawful m) (nodes : List (Node P)) (sound : Sound m Everywhere nodes) (place : ℕ) (node : Node P) (taken : Taken nodes place node) (fin : m.game.finished node.position ≡ true) where
-    least_moves : (moves : List ℕ) → Finishes m m.game.start moves → node.depth ≤ length moves
+    least_moves : (moves : List ℕ) → Finishes m.game m.game.start moves → node.depth ≤ length moves
     least_moves moves finish =
         let a = open_ahead m lawful nodes sound moves finish in
         let first = (taken.first a.place a.node a.at a.is_open).lesser in
@@ -42,7 +43,7 @@ module _ {P : Type 0} (m : Meaning P) where
     found_there : Found m nodes node.depth place
     found_there =
         let t = trail m nodes sound.linked place node taken.there in
-        let finish : Finishes m m.game.start t.moves = record { last = node.position; plays = t.plays; finished = fin } in
+        let finish : Finishes m.game m.game.start t.moves = record { last = node.position; plays = t.plays; finished = fin } in
         let least = least_moves t.moves finish in
         let short = t.short in
         record { moves = t.moves; leads = t.leads; count = omega arith; finish = finish }

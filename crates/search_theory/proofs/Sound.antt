@@ -2,8 +2,8 @@
 use Rattle.std.proofs.Common.{◌≡◌, ℕ, ◌+◌, ◌<◌, ◌≤◌, ◌⊎◌, inl, inr, Bool, true, false, List, [], ◌∷◌, ◌++◌, length, slice_get, slice_set, Some, None, Option, refl, sym, ap, subst, ◌∙◌, arith}
 use Rattle.std.proofs.lemmas.Option.{same_Some, slice_get_within}
 use Rattle.std.proofs.lemmas.Bool.{true≢false, cases_eq}
-use Rattle.puzzle.specs.Game.{Plays, Reached, here, then}
-use Rattle.puzzle.specs.Meaning.{Meaning, Finishes, Lawful}
+use Rattle.puzzle.specs.Game.{Plays, Reached, here, then, Finishes}
+use Rattle.puzzle.specs.Meaning.{Meaning, Lawful}
 use Rattle.search_theory.specs.Nodes.{Node, sum}
 use Rattle.search_theory.specs.Known.{Known}
 use Rattle.search_theory.proofs.Places.{Put, put_set, put_push}
@@ -135,7 +135,7 @@ module _ {P : Type 0} (m : Meaning P) where
     pub low : sum node ≤ most
 
   -- a position from which moves finish is not dead
-  alive : Lawful m → (p : P) (moves : List ℕ) → Reached m.game p → Finishes m p moves → (floor : ℕ) × (m.lower_bound p ≡ Some floor)
+  alive : Lawful m → (p : P) (moves : List ℕ) → Reached m.game p → Finishes m.game p moves → (floor : ℕ) × (m.lower_bound p ≡ Some floor)
   alive lawful p moves reached finish = by_bound (m.lower_bound p) refl
     where
       by_bound : (bound : Option ℕ) → m.lower_bound p ≡ bound → (floor : ℕ) × (m.lower_bound p ≡ Some floor)
@@ -147,7 +147,7 @@ module _ {P : Type 0} (m : Meaning P) where
     ahead : (p q : P) (moves : List ℕ) → Plays m.game p moves q → m.game.finished q ≡ true → (i : ℕ) (node : Node P) → slice_get nodes i ≡ Some node → node.position ≡ p
         → (most : ℕ) → node.depth + length moves ≤ most → (b : Bool) → node.is_open ≡ b → Ahead nodes most
     ahead p q moves plays fin i node at is most near true is_open =
-        let finish : Finishes m node.position moves = record { last = q; plays = subst (λ z. Plays m.game z moves q) (sym is) plays; finished = fin } in
+        let finish : Finishes m.game node.position moves = record { last = q; plays = subst (λ z. Plays m.game z moves q) (sym is) plays; finished = fin } in
         let low = lawful.bounded node.position (sound.known.reached i node at) node.floor (sound.known.floor i node at) moves finish in
         record { place = i; node = node; at = at; is_open = is_open; low = omega arith }
     ahead p q [] here fin i node at is most near false shut =
@@ -162,7 +162,7 @@ module _ {P : Type 0} (m : Meaning P) where
         ahead r q moves more fin s.place s.node s.at s.same most (omega arith) s.node.is_open refl
 
     -- on each way from the start to the finish lies an open node
-    pub open_ahead : (moves : List ℕ) → Finishes m m.game.start moves → Ahead nodes (length moves)
+    pub open_ahead : (moves : List ℕ) → Finishes m.game m.game.start moves → Ahead nodes (length moves)
     open_ahead moves finish =
         let s = sound.begins in
         let near = s.near in

@@ -2,14 +2,13 @@
 use Rattle.std.proofs.Common.{◌≡◌, ℕ, zero, suc, ◌+◌, ◌*◌, ◌<◌, ◌≤◌, true, false, List, [], ◌∷◌, length, slice_get, slice_set, Some, None, refl, sym, ap, subst, ◌∙◌, arith}
 use Rattle.std.proofs.lemmas.Option.{same_Some, none-some}
 use Rattle.std.proofs.lemmas.Bool.{true≢false}
-use Rattle.puzzle.specs.Game.{here}
-use Rattle.puzzle.specs.Meaning.{Meaning, Finishes, Lawful}
+use Rattle.puzzle.specs.Game.{here, Finishes, CanReach}
+use Rattle.puzzle.specs.Meaning.{Meaning, Lawful}
 use Rattle.search_theory.specs.declared.Verdict.{Verdict}
 use Rattle.search_theory.specs.declared.Verdict.TheVariants.{Running, Solved, Unsolvable, TableFull}
 use Rattle.search_theory.specs.Nodes.{Node, closed, Taken}
 use Rattle.search_theory.specs.Steps.{State, state, new_node, begun, MovesPlayed, Overflows, GoesOn, some_open, none_open, Step, finishes, expands, overflows}
 use Rattle.search_theory.specs.Known.{Known}
-use Rattle.search_theory.specs.Promise.{CanReach}
 use Rattle.search_theory.proofs.Known.{known_begun, begun_cases}
 use Rattle.search_theory.proofs.Sound.{Apart, root, Sound, Everywhere, open_ahead}
 use Rattle.search_theory.proofs.Weights.{weigh}
@@ -31,8 +30,8 @@ module _ {P : Type 0} (m : Meaning P) (capacity : ℕ) where
   abbrev pub Says : List (Node P) → ℕ → Verdict → Type 0
   Says nodes steps Running = Proceeds nodes steps
   Says nodes steps (Solved n) = Shortest m nodes n
-  Says nodes steps Unsolvable = (moves : List ℕ) → Finishes m m.game.start moves → ⊥
-  Says nodes steps TableFull = CanReach m (capacity + 1)
+  Says nodes steps Unsolvable = (moves : List ℕ) → Finishes m.game m.game.start moves → ⊥
+  Says nodes steps TableFull = CanReach m.game (capacity + 1)
 
   -- what holds of each state
   pub record Honest (t : State P) : Type 0 where

@@ -2,7 +2,8 @@
 use Rattle.std.specs.Prelude.{◌≡◌, ℕ, ◌*◌, ◌≤◌, Bool, true, false, cond, ◌&&◌, ◌==◌, nat_le, List, [], ◌∷◌, ◌++◌, length, drop, Some, None, Option, Ok, Err, Result}
 use Rattle.refusals.specs.declared.Fault.{Fault}
 use Rattle.refusals.specs.declared.Fault.TheVariants.{TableSize, ListSize, AlreadyOpen, NotOpen, NoBudget, NotSolved, ShortList}
-use Rattle.puzzle.specs.Meaning.{Meaning, Finishes}
+use Rattle.puzzle.specs.Game.{Finishes}
+use Rattle.puzzle.specs.Meaning.{Meaning}
 use Rattle.search_theory.specs.declared.Verdict.{Verdict}
 use Rattle.search_theory.specs.declared.Verdict.TheVariants.{Running, Solved, Unsolvable, TableFull}
 use Rattle.search_theory.specs.declared.Advance.{Advance}
@@ -103,7 +104,7 @@ module _ {P : Type 0} (m : Meaning P) where
   pub record RecitesWay (n : ℕ) (before after : List ℕ) : Type 0 where
     pub moves : List ℕ
     pub count : length moves ≡ n
-    pub finish : Finishes m m.game.start moves
+    pub finish : Finishes m.game m.game.start moves
     pub written : after ≡ moves ++ drop n before
 
   abbrev pub Recites : Search P → List ℕ → Result ℕ Fault → List ℕ → Type 0

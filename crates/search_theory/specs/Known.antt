@@ -1,7 +1,7 @@
 -- What is known of the nodes of a search at every moment. Assumes nothing.
 use Rattle.std.specs.Prelude.{◌≡◌, ℕ, ◌<◌, ◌≤◌, ◌*◌, List, [], ◌∷◌, ◌++◌, length, slice_get, Some}
-use Rattle.puzzle.specs.Game.{Reached}
-use Rattle.puzzle.specs.Meaning.{Meaning, Finishes}
+use Rattle.puzzle.specs.Game.{Reached, Finishes}
+use Rattle.puzzle.specs.Meaning.{Meaning}
 use Rattle.search_theory.specs.declared.Verdict.TheVariants.{Running, Solved}
 use Rattle.search_theory.specs.Nodes.{Node, Taken, NoneOpen}
 use Rattle.search_theory.specs.Steps.{State}
@@ -25,7 +25,7 @@ module _ {P : Type 0} (m : Meaning P) where
     pub moves : List ℕ
     pub leads : Leads nodes place moves
     pub count : length moves ≡ n
-    pub finish : Finishes m m.game.start moves
+    pub finish : Finishes m.game m.game.start moves
 
   -- what is known of an opened search that only calls for this puzzle led to
   pub record Held (s : Search P) (t : State P) : Type 0 where

@@ -1,17 +1,13 @@
 -- The promise of a search, for every list of calls. Assumes nothing.
 use Rattle.std.specs.Prelude.{◌≡◌, ℕ, ◌+◌, ◌*◌, ◌<◌, ◌≤◌, List, [], ◌∷◌, length, map, slice_get, Some, Ok, Err, Result}
 use Rattle.refusals.specs.declared.Fault.{Fault}
-use Rattle.puzzle.specs.Game.{Reached}
-use Rattle.puzzle.specs.Meaning.{Meaning, Finishes}
+use Rattle.puzzle.specs.Game.{Reached, Finishes, CanReach, Distinct}
+use Rattle.puzzle.specs.Meaning.{Meaning}
 use Rattle.search_theory.specs.declared.Verdict.TheVariants.{Running, Solved, Unsolvable, TableFull}
 use Rattle.search_theory.specs.declared.Advance.{Advance}
 use Rattle.search_theory.specs.Nodes.{Node}
 use Rattle.search_theory.specs.Steps.{State, Step}
 use Rattle.search_theory.specs.Calls.{Search, new_search, Call, opening, advance, asking, recital, Advances, Recites, RecitesWay, Run}
-
--- no position stands twice in a list
-abbrev pub Distinct : {P : Type 0} → List P → Type 0
-Distinct {P} ps = (i j : ℕ) (p : P) → slice_get ps i ≡ Some p → slice_get ps j ≡ Some p → i ≡ j
 
 -- the steps that the advances answered
 abbrev pub answered : List Call → ℕ
@@ -32,28 +28,21 @@ granted (asking _ ∷ calls) = granted calls
 granted (recital _ _ _ ∷ calls) = granted calls
 
 module _ {P : Type 0} (m : Meaning P) where
-  -- so many positions can be reached, all different
-  pub record CanReach (n : ℕ) : Type 0 where
-    pub positions : List P
-    pub many : length positions ≡ n
-    pub distinct : Distinct positions
-    pub reached : (i : ℕ) (p : P) → slice_get positions i ≡ Some p → Reached m.game p
-
   -- what holds of an opened search that calls for a puzzle led to
   pub record Right (calls : List Call) (s : Search P) (t : State P) : Type 0 where
     -- solved in n: no legal moves that finish are fewer
-    pub shortest : (n : ℕ) → t.verdict ≡ Solved n → (moves : List ℕ) → Finishes m m.game.start moves → n ≤ length moves
+    pub shortest : (n : ℕ) → t.verdict ≡ Solved n → (moves : List ℕ) → Finishes m.game m.game.start moves → n ≤ length moves
     -- and n legal moves finish
-    pub found : (n : ℕ) → t.verdict ≡ Solved n → (moves : List ℕ) × (length moves ≡ n) × Finishes m m.game.start moves
+    pub found : (n : ℕ) → t.verdict ≡ Solved n → (moves : List ℕ) × (length moves ≡ n) × Finishes m.game m.game.start moves
     -- every recital with room for n gives n that finish
     pub recited : (n : ℕ) → t.verdict ≡ Solved n → (before after : List ℕ) (answer : Result ℕ Fault) → Recites m s before answer after → n ≤ length before
         → (answer ≡ Ok n) × RecitesWay m n before after
     -- they are fewer than the table has places
     pub short : (n : ℕ) → t.verdict ≡ Solved n → n < s.places
     -- unsolvable: no legal moves finish
-    pub unsolvable : t.verdict ≡ Unsolvable → (moves : List ℕ) → Finishes m m.game.start moves → ⊥
+    pub unsolvable : t.verdict ≡ Unsolvable → (moves : List ℕ) → Finishes m.game m.game.start moves → ⊥
     -- table full: more positions can be reached than there are places
-    pub full : t.verdict ≡ TableFull → CanReach (s.places + 1)
+    pub full : t.verdict ≡ TableFull → CanReach m.game (s.places + 1)
     -- the steps are those that the advances answered, and while it runs those that they were granted
     pub counted : t.steps ≡ answered calls
     pub spent : t.verdict ≡ Running → t.steps ≡ granted calls
