@@ -108,7 +108,12 @@ fn answers_atoms(rt: HostRuntime) {
     answered_so(&rt, rt.alloc(), &ATOMS);
 }
 
-static FAULTS: [(&str, Answer); 7] = [
+static FAULTS: [(&str, Answer); 11] = [
+    // The first line has the keyword of no kind.
+    ("(park\n)\n", Answer::Text("(fault 12 1)\n")),
+    ("(atomix2 2 2\n", Answer::Text("(fault 12 1)\n")),
+    ("tiles 2 2\n", Answer::Text("(fault 12 1)\n")),
+    ("(park\n)", Answer::Text("(fault 11 0)\n")),
     ("", Answer::Text("(fault 11 0)\n")),
     ("\n", Answer::Text("(fault 12 1)\n")),
     ("(tiles 5 4\n", Answer::Text("(fault 13 1)\n")),

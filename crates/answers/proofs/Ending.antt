@@ -9,11 +9,11 @@ use Rattle.search_theory.specs.declared.Verdict.{Verdict}
 use Rattle.search_theory.specs.declared.Verdict.TheVariants.{Running, Solved, Unsolvable, TableFull}
 use Rattle.search_theory.specs.declared.Advance.{Advance}
 use Rattle.search_theory.specs.Steps.{State}
-use Rattle.search_theory.specs.Calls.{Search, new_search, refusal_in, recite_refusal, Opens, Advances, AdvancesBy, Recites, Call, opening, advance, Run, none, then, Served}
+use Rattle.search_theory.specs.Calls.{Search, new_search, refusal_in, recite_refusal, Opens, Advances, AdvancesBy, Recites, Call, opening, advance, Run, none, then, AllCallsFor}
 use Rattle.search_theory.specs.Promise.{Right, Promise}
 use Rattle.search_theory.proofs.Calling.{may_recite}
 use Rattle.answers.specs.declared.solving.Found.TheVariants.{Way}
-use Rattle.answers.specs.Solving.{Finds}
+use Rattle.answers.specs.inside.Solving.{Finds}
 
 -- no refusal: an answer
 pub unrefused : {A : Type 0} (r : Result A Fault) → refusal_in r ≡ None → IsOk r
@@ -25,8 +25,8 @@ module _ {P : Type 0} (m : Meaning P) (first opened : Search P) (places numbers 
   opening_run = subst (λ s. Run m s (opening (Ok u) ∷ []) opened) new (then none opens)
 
   -- after the opening only calls for this puzzle were made
-  opened_served : Served m opened
-  opened_served = record { places = places; numbers = numbers; calls = opening (Ok u) ∷ []; run = opening_run }
+  opened_calls : AllCallsFor m opened
+  opened_calls = record { places = places; numbers = numbers; calls = opening (Ok u) ∷ []; run = opening_run }
 
   module _ (promise : Promise m) (budget : ℕ) (answer : Advance) (last : Search P) (advances : AdvancesBy m budget opened answer last) where
     abbrev calls : List Call
@@ -36,8 +36,8 @@ module _ {P : Type 0} (m : Meaning P) (first opened : Search P) (places numbers 
     run = then opening_run advances
 
     -- and after the advance too
-    ended_served : Served m last
-    ended_served = record { places = places; numbers = numbers; calls = calls; run = run }
+    ended_calls : AllCallsFor m last
+    ended_calls = record { places = places; numbers = numbers; calls = calls; run = run }
 
     state_is : last.state ≡ Some advances.last
     state_is = ap (λ (s : Search P). s.state) advances.to
@@ -79,7 +79,7 @@ module _ {P : Type 0} (m : Meaning P) (first opened : Search P) (places numbers 
 
 -- what is known after the advance
 pub record Ended {P : Type 0} (m : Meaning P) (places : ℕ) (verdict : Verdict) (last : Search P) : Type 0 where
-  pub served : Served m last
+  pub all_calls : AllCallsFor m last
   pub final : verdict ≡ Running → ⊥
   pub nothing_solves : verdict ≡ Unsolvable → (moves : List ℕ) → Finishes m.game m.game.start moves → ⊥
   pub too_many : verdict ≡ TableFull → CanReach m.game (places + 1)
@@ -87,14 +87,14 @@ pub record Ended {P : Type 0} (m : Meaning P) (places : ℕ) (verdict : Verdict)
   pub solves : (n : ℕ) (before after : List ℕ) → Recites m last before (Ok n) after → Finds m places before (Way n) after
 
 pub ends : {P : Type 0} (m : Meaning P) (places budget : ℕ) (first opened last : Search P) (r : Result (Unit {0}) Fault) (u : Unit {0}) (q : Result Advance Fault) (answer : Advance)
-    → first ≡ new_search places (8 * places) → r ≡ Ok u → Opens m first r opened → Promise m → q ≡ Ok answer → (Served m opened → Advances m budget opened q last) → places * places ≤ budget
+    → first ≡ new_search places (8 * places) → r ≡ Ok u → Opens m first r opened → Promise m → q ≡ Ok answer → (AllCallsFor m opened → Advances m budget opened q last) → places * places ≤ budget
     → Ended m places answer.verdict last
 ends {P} m places budget first opened last r u q answer new r_is opens promise q_is advances enough =
     let opened_well = subst (λ x. Opens m first x opened) r_is opens in
-    let served = opened_served m first opened places (8 * places) new u opened_well in
-    let by = subst (λ x. Advances m budget opened x last) q_is (advances served) in
+    let all_calls = opened_calls m first opened places (8 * places) new u opened_well in
+    let by = subst (λ x. Advances m budget opened x last) q_is (advances all_calls) in
     record {
-      served = ended_served m first opened places (8 * places) new u opened_well promise budget answer last by;
+      all_calls = ended_calls m first opened places (8 * places) new u opened_well promise budget answer last by;
       final = ended m first opened places (8 * places) new u opened_well promise budget answer last by enough;
       nothing_solves = nothing_solves m first opened places (8 * places) new u opened_well promise budget answer last by;
       too_many = too_many m first opened places (8 * places) new u opened_well promise budget answer last by;

@@ -1,6 +1,6 @@
 ghost use Rattle.std.specs.Prelude.{◌≡◌, ◌*◌, length};
 ghost use Rattle.answers.specs.Answers.{places};
-ghost use Rattle.answers.specs.Solving.{Finds};
+ghost use Rattle.answers.specs.inside.Solving.{Finds};
 
 use puzzle::Puzzle;
 use search::Search;

@@ -1,26 +1,17 @@
 -- The atoms of a board by number: their labels and their cells. Assumes nothing.
-use Rattle.std.proofs.Common.{◌≡◌, ℕ, suc, ◌+◌, ◌-◌, ◌<◌, ◌≤◌, Bool, true, false, cond, List, [], ◌∷◌, ◌++◌, map, length, get_or, take, set, replicate, filter, sym, refl, ap, ◌∙◌, subst, zero-add, append_assoc, arith, length-take-le}
+use Rattle.std.proofs.Common.{◌≡◌, ℕ, suc, ◌+◌, ◌-◌, ◌<◌, ◌≤◌, Bool, List, [], ◌∷◌, ◌++◌, map, length, get_or, take, set, replicate, filter, sym, refl, ap, ◌∙◌, subst, zero-add, append_assoc, arith, length-take-le}
 use Rattle.std.specs.List.{range_with_len, filter_map, enumerate_from}
 use Rattle.std.proofs.Math.Seq.{take-append_seam}
 use Rattle.std.proofs.lemmas.List.FromFn.{fill_by_all, length-enumerate_from, get_or-enumerate_from}
 use Rattle.std.proofs.lemmas.List.{length-map, length_push, set_at, take_more, take_all, get_or-map, get_or_default}
-use Rattle.std.proofs.lemmas.List.Sums.{length-filter}
 use Rattle.std.proofs.lemmas.Simd.{map-map}
 use Rattle.pictures.specs.declared.cell.Cell.{Cell}
 use Rattle.pictures.specs.declared.cell.Cell.TheVariants.{Wall, Free, Atom}
 use Rattle.pictures.specs.Cells.{label_in}
 use Rattle.pictures.specs.Pictures.{Shape, cell_at}
 use Rattle.molecules.specs.Atoms.{is_atom, atom_count}
-use Rattle.atoms.specs.Board.{atom_cells, label_of, labels_of, filled}
-
--- what passes of what a function gives, is what it gives of what passes before it
-filter-map : {X Y : Type 0} (test : Y → Bool) (f : X → Y) (xs : List X) → filter test (map f xs) ≡ map f (filter (λ x. test (f x)) xs)
-filter-map test f [] = refl
-filter-map {X = X} {Y = Y} test f (x ∷ xs) = by (test (f x)) _ _ (filter-map test f xs)
-  where
-    by : (b : Bool) (ys : List Y) (zs : List X) → ys ≡ map f zs → cond b (f x ∷ ys) ys ≡ map f (cond b (x ∷ zs) zs)
-    by true ys zs rest = ap (λ l. f x ∷ l) rest
-    by false ys zs rest = rest
+use Rattle.atoms.specs.Board.{atom_cells, label_of, labels_of, array_of}
+use Rattle.atoms.specs.laws.Starting.{filter-map, atoms_among, length_atoms}
 
 -- the labels on some cells are those of the atoms among them
 labels_among : (xs : List Cell) → filter_map label_in xs ≡ map label_of (filter is_atom xs)
@@ -45,27 +36,13 @@ abbrev pub on_atom : ℕ × Cell → Bool
 on_atom p = is_atom p.1
 
 module _ (b : Shape) where
-  -- the numbers of the cells
-  abbrev numbers : List ℕ
-  numbers = range_with_len 0 (length b.cells)
-
-  -- the atoms among the cells
-  atoms_among : filter is_atom b.cells ≡ map (cell_at b) (atom_cells b)
-  atoms_among =
-      ap (filter is_atom) (fill_by_all (cell_at b) b.cells _ Wall refl (λ k h. refl)) ∙ filter-map is_atom (cell_at b) numbers
-
-  -- as many as the atoms are their cells
-  pub length_atoms : length (atom_cells b) ≡ atom_count b
-  length_atoms =
-      sym (length-map (atom_cells b) (cell_at b)) ∙ sym (ap length atoms_among) ∙ length-filter is_atom b.cells
-
-  -- and their labels
+  -- there are as many labels as atoms
   pub length_labels : length (labels_of b) ≡ atom_count b
-  length_labels = length-map (atom_cells b) (λ i. label_of (cell_at b i)) ∙ length_atoms
+  length_labels = length-map (atom_cells b) (λ i. label_of (cell_at b i)) ∙ length_atoms b
 
   -- the labels, cell by cell
   labels_called : filter_map label_in b.cells ≡ labels_of b
-  labels_called = labels_among b.cells ∙ ap (map label_of) atoms_among ∙ map-map label_of (cell_at b) (atom_cells b)
+  labels_called = labels_among b.cells ∙ ap (map label_of) (atoms_among b) ∙ map-map label_of (cell_at b) (atom_cells b)
 
   abbrev Labels : List (ℕ × ℕ)
   Labels = enumerate_from 0 (filter_map label_in b.cells)
@@ -84,7 +61,7 @@ module _ (b : Shape) where
   cells_called =
       ap (filter on_atom)
       (fill_by_all numbered (enumerate_from 0 b.cells) _ (0, Wall) (length-enumerate_from 0 b.cells) (λ k h. get_or-enumerate_from 0 b.cells k (0, Wall) h ∙ ap (λ j. (j, cell_at b k)) (zero-add k)))
-      ∙ filter-map on_atom numbered numbers
+      ∙ filter-map on_atom numbered (range_with_len 0 (length b.cells))
 
   abbrev Cells : List (ℕ × (ℕ × Cell))
   Cells = enumerate_from 0 (filter on_atom (enumerate_from 0 b.cells))
@@ -100,8 +77,8 @@ module _ (b : Shape) where
   cell_end n all =
       omega (arith, length-enumerate_from 0 (filter on_atom (enumerate_from 0 b.cells)), ap length cells_called, length-map (atom_cells b) numbered)
 
--- one more goes behind the others in a list filled to sixteen
-set_filled : (xs : List ℕ) (x : ℕ) → length xs < 16 → set (filled xs) (length xs) x ≡ filled (xs ++ (x ∷ []))
+-- one more goes behind the others in an array of sixteen
+set_filled : (xs : List ℕ) (x : ℕ) → length xs < 16 → set (array_of xs) (length xs) x ≡ array_of (xs ++ (x ∷ []))
 set_filled xs x room =
     let here : 16 - length xs ≡ suc (16 - (length xs + 1)) = omega arith in
     ap (λ n. set (xs ++ replicate n 0) (length xs) x) here
@@ -110,25 +87,25 @@ set_filled xs x room =
     ∙ ap (λ n. (xs ++ (x ∷ [])) ++ replicate (16 - n) 0) (sym (length_push xs x))
 
 -- the first n of a list are filled in, and the next one goes behind them
-fill_more : (xs : List ℕ) (n x : ℕ) → length xs ≤ 16 → n < length xs → x ≡ get_or xs n 0 → set (filled (take n xs)) n x ≡ filled (take (n + 1) xs)
+fill_more : (xs : List ℕ) (n x : ℕ) → length xs ≤ 16 → n < length xs → x ≡ get_or xs n 0 → set (array_of (take n xs)) n x ≡ array_of (take (n + 1) xs)
 fill_more xs n x few h e =
     let long : length (take n xs) ≡ n = length-take-le n xs (omega arith) in
-    ap (λ k. set (filled (take n xs)) k x) (sym long)
+    ap (λ k. set (array_of (take n xs)) k x) (sym long)
     ∙ set_filled (take n xs) x (omega arith)
-    ∙ ap (λ y. filled (take n xs ++ (y ∷ []))) e
-    ∙ ap filled (sym (take_more xs n 0 h))
+    ∙ ap (λ y. array_of (take n xs ++ (y ∷ []))) e
+    ∙ ap array_of (sym (take_more xs n 0 h))
 
 -- the same in a turn
-pub fill_turn : (xs : List ℕ) (n number x : ℕ) (old : List ℕ) → length xs ≤ 16 → old ≡ filled (take n xs) → Next xs n number x → set old number x ≡ filled (take (n + 1) xs)
+pub fill_turn : (xs : List ℕ) (n number x : ℕ) (old : List ℕ) → length xs ≤ 16 → old ≡ array_of (take n xs) → Next xs n number x → set old number x ≡ array_of (take (n + 1) xs)
 fill_turn xs n number x old few before next =
-    ap (λ l. set l number x) before ∙ ap (λ k. set (filled (take n xs)) k x) next.1
+    ap (λ l. set l number x) before ∙ ap (λ k. set (array_of (take n xs)) k x) next.1
     ∙ fill_more xs n x few next.0 (next.2 ∙ get_or_default xs n x 0 next.0)
 
 -- all are filled in
-pub fill_end : (xs : List ℕ) (n : ℕ) (old : List ℕ) → old ≡ filled (take n xs) → length xs ≤ n → old ≡ filled xs
-fill_end xs n old before all = before ∙ ap filled (take_all n xs all)
+pub fill_end : (xs : List ℕ) (n : ℕ) (old : List ℕ) → old ≡ array_of (take n xs) → length xs ≤ n → old ≡ array_of xs
+fill_end xs n old before all = before ∙ ap array_of (take_all n xs all)
 
 -- the labels are at the front of the list that they are filled into
-pub labels_filled : (b : Shape) (atoms : ℕ) (labels : List ℕ) → atoms ≡ atom_count b → labels ≡ filled (labels_of b) → take atoms labels ≡ labels_of b
+pub labels_filled : (b : Shape) (atoms : ℕ) (labels : List ℕ) → atoms ≡ atom_count b → labels ≡ array_of (labels_of b) → take atoms labels ≡ labels_of b
 labels_filled b atoms labels counted all =
-    ap (take atoms) all ∙ ap (λ n. take n (filled (labels_of b))) (counted ∙ sym (length_labels b)) ∙ take-append_seam (labels_of b) _
+    ap (take atoms) all ∙ ap (λ n. take n (array_of (labels_of b))) (counted ∙ sym (length_labels b)) ∙ take-append_seam (labels_of b) _

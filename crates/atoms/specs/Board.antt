@@ -6,7 +6,7 @@ use Rattle.pictures.specs.declared.cell.Cell.TheVariants.{Wall, Free, Atom}
 use Rattle.pictures.specs.Pictures.{Shape, cell_at}
 use Rattle.molecules.specs.Atoms.{is_wall, is_atom}
 
--- the cells of the atoms in reading order: the atom with number a stands on the cell at place a of the list
+-- the cells of the atoms in reading order: the atom with number a stands on cell number a of the list
 abbrev pub atom_cells : Shape → List ℕ
 atom_cells b = filter (λ i. is_atom (cell_at b i)) (range_with_len 0 (length b.cells))
 
@@ -19,13 +19,13 @@ label_of (Atom x) = x
 abbrev pub labels_of : Shape → List ℕ
 labels_of b = map (λ i. label_of (cell_at b i)) (atom_cells b)
 
--- a list of cells as a position has it: sixteen places, those past the last atom 0
-abbrev pub filled : List ℕ → List ℕ
-filled cells = cells ++ replicate (16 - length cells) 0
+-- the array of sixteen that begins with these numbers, and is 0 past the last
+abbrev pub array_of : List ℕ → List ℕ
+array_of xs = xs ++ replicate (16 - length xs) 0
 
 abbrev pub start_cells : Shape → List ℕ
-start_cells b = filled (atom_cells b)
+start_cells b = array_of (atom_cells b)
 
 -- whether a cell of the board is a wall
-abbrev pub wall_at : Shape → ℕ → Bool
-wall_at b i = is_wall (slice_index_or b.cells i Free)
+abbrev pub is_wall_at : Shape → ℕ → Bool
+is_wall_at b i = is_wall (slice_index_or b.cells i Free)

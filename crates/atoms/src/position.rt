@@ -1,6 +1,6 @@
 use crate::level::AtomLevel;
 
-/// Where the atoms of a level stand: the cell of each by its number. Places past the last atom are 0.
+/// Where the atoms of a level stand: the cell of each by its number. Past the last atom all are 0.
 #[derive(Clone, Copy, Debug, PartialEq, Eq)]
 pub struct Position {
     pub cells: [u8; AtomLevel::MOST_ATOMS],

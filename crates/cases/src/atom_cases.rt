@@ -1,7 +1,6 @@
 //! Atom levels and their ways.
 use crate::said::{Said, judge_level, judged_so, said, writes_back, written_so};
-use atoms_text::{read_level, write_level};
-use atoms_ways::AtomKind;
+use atoms::{read_level, write_level};
 use judgement::judge_texts;
 use refusals::Refusal;
 
@@ -638,7 +637,7 @@ static WRITTEN: [(&[u32], usize, Said<usize>, &str); 22] = [
 
 #[test]
 fn writes_ways(rt: HostRuntime) -> Result<(), Refusal> {
-    let level = AtomKind(read_level(SHELF.as_bytes())?);
+    let level = read_level(SHELF.as_bytes())?;
     for (moves, room, due, text) in &WRITTEN {
         written_so(&rt, &level, moves, *room, *due, text);
     }

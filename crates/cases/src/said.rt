@@ -2,9 +2,9 @@
 use judgement::judge_texts;
 use refusals::Refusal;
 use std::process::Abort;
-use ways::{Kind, write_way};
+use ways::{Notation, write_way};
 
-// An answer: a count, or a refusal's number, as the documents have it, and its line.
+// An answer: a count, or a refusal's number and its line.
 pub(crate) type Said<T> = Result<T, (u32, usize)>;
 
 pub(crate) fn said<T>(answer: Result<T, Refusal>) -> Said<T> {
@@ -64,9 +64,9 @@ pub(crate) fn writes_back<F: Fn(&[u8], &mut [u8]) -> Result<usize, Refusal>>(
 }
 
 // A way is written as its row says.
-pub(crate) fn written_so<K: Kind>(
+pub(crate) fn written_so<L: Notation>(
     rt: &impl Abort,
-    level: &K,
+    level: &L,
     moves: &[u32],
     room: usize,
     due: Said<usize>,

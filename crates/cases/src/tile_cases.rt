@@ -2,8 +2,7 @@
 use crate::said::{Said, judge_level, judged_so, writes_back, written_so};
 use judgement::judge_texts;
 use refusals::Refusal;
-use tiles_text::{read_level, write_level};
-use tiles_ways::TileKind;
+use tiles::{read_level, write_level};
 
 const RING: &str = "(tiles 2 2\n(row 0 3)\n(row 2 1)\n)\n";
 
@@ -362,7 +361,7 @@ static WRITTEN: [(&[u32], usize, Said<usize>, &str); 13] = [
 
 #[test]
 fn writes_ways(rt: HostRuntime) -> Result<(), Refusal> {
-    let level = TileKind(read_level(RING.as_bytes())?);
+    let level = read_level(RING.as_bytes())?;
     for (moves, room, due, text) in &WRITTEN {
         written_so(&rt, &level, moves, *room, *due, text);
     }

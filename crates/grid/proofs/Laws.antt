@@ -5,7 +5,7 @@ use Rattle.std.proofs.lemmas.Nat.{div-add-mod', mul-add-lt, div_below, mod_below
 use Rattle.std.proofs.lemmas.Bool.Decides.{nat_tests}
 use Rattle.grid.specs.declared.Direction.{Direction}
 use Rattle.grid.specs.declared.Direction.TheVariants.{Up, Down, Left, Right}
-use Rattle.grid.specs.declared.Place.{Place}
+use Rattle.grid.specs.declared.Coordinates.{Coordinates}
 use Rattle.grid.specs.Grid.{number_of, direction_of, neighbour, CellReadsBack, StepsOn}
 
 pub direction_of_number_of : (d : Direction) → direction_of (number_of d) ≡ Some d
@@ -44,7 +44,7 @@ lies (suc n) h cell on = record {
 rows_apart : (w r s c : ℕ) → c < w → (r ≡ s → ⊥) → r * w + c ≡ s * w + c → ⊥
 rows_apart w r s c h apart same = apart (sym (div-mul-add r w c h) ∙ ap (λ k. k / w) same ∙ div-mul-add s w c h)
 
-pub cell_reads_back : (w h : ℕ) (p : Place) → CellReadsBack w h p
+pub cell_reads_back : (w h : ℕ) (p : Coordinates) → CellReadsBack w h p
 cell_reads_back w h p cell e =
     let row : p.row < h = grind (arith, nat_tests) in
     let column : p.column < w = grind (arith, nat_tests) in

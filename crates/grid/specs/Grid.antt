@@ -4,7 +4,7 @@ use Rattle.std.specs.Result.{result_ok}
 use Rattle.std.specs.Str.{bytes_eq}
 use Rattle.grid.specs.declared.Direction.{Direction}
 use Rattle.grid.specs.declared.Direction.TheVariants.{Up, Down, Left, Right}
-use Rattle.grid.specs.declared.Place.{Place}
+use Rattle.grid.specs.declared.Coordinates.{Coordinates}
 use Rattle.grid.specs.declared.UnknownDirection.{UnknownDirection}
 
 abbrev pub number_of : Direction → ℕ
@@ -40,12 +40,12 @@ column w cell = cell % w
 abbrev pub at : ℕ → ℕ → ℕ → ℕ
 at w r c = r * w + c
 
--- where a cell lies on a board w cells wide and h high: nowhere if it is not on the board
-abbrev pub place_of : ℕ → ℕ → ℕ → Option Place
-place_of w h cell = cond (nat_lt cell (w * h)) (Some (record { row = row w cell; column = column w cell })) None
+-- the row and the column of a cell of a board w cells wide and h high: none if it is not on the board
+abbrev pub coordinates_of : ℕ → ℕ → ℕ → Option Coordinates
+coordinates_of w h cell = cond (nat_lt cell (w * h)) (Some (record { row = row w cell; column = column w cell })) None
 
--- the cell at a place: none if the place is not on the board
-abbrev pub cell_at : ℕ → ℕ → Place → Option ℕ
+-- the cell on a row and a column: none if they are not on the board
+abbrev pub cell_at : ℕ → ℕ → Coordinates → Option ℕ
 cell_at w h p = cond (nat_lt p.row h && nat_lt p.column w) (Some (at w p.row p.column)) None
 
 -- one step on from the row r and the column c of a board w cells wide and h high: none past the edge
@@ -71,13 +71,13 @@ NumbersOne m = (d : Direction) → direction_of m ≡ Some d → number_of d ≡
 abbrev pub WordReadsBack : Direction → Type 0
 WordReadsBack d = of_word (word_of d) ≡ Some d
 
--- the cell at a cell's place is that cell
-abbrev pub PlaceReadsBack : ℕ → ℕ → ℕ → Type 0
-PlaceReadsBack w h cell = (p : Place) → place_of w h cell ≡ Some p → cell_at w h p ≡ Some cell
+-- the cell on the row and the column of a cell is that cell
+abbrev pub CoordinatesReadBack : ℕ → ℕ → ℕ → Type 0
+CoordinatesReadBack w h cell = (p : Coordinates) → coordinates_of w h cell ≡ Some p → cell_at w h p ≡ Some cell
 
--- the place of the cell at a place is that place
-abbrev pub CellReadsBack : ℕ → ℕ → Place → Type 0
-CellReadsBack w h p = (cell : ℕ) → cell_at w h p ≡ Some cell → place_of w h cell ≡ Some p
+-- the row and the column of the cell that lies there are those
+abbrev pub CellReadsBack : ℕ → ℕ → Coordinates → Type 0
+CellReadsBack w h p = (cell : ℕ) → cell_at w h p ≡ Some cell → coordinates_of w h cell ≡ Some p
 
 -- one step on is another cell of the board
 abbrev pub StepsOn : ℕ → ℕ → ℕ → Direction → Type 0

@@ -2,8 +2,8 @@
 #![tactic(auto)]
 
 ghost use Rattle.std.specs.Prelude.{◌≡◌, ◌*◌};
-ghost use Rattle.grid.specs.Grid.{word_of, place_of, cell_at, neighbour};
-ghost use Rattle.grid.specs.Grid.{SaysNumber, SaysWord, IsNumberOf, WordReadsBack, PlaceReadsBack, CellReadsBack, StepsOn};
+ghost use Rattle.grid.specs.Grid.{word_of, coordinates_of, cell_at, neighbour};
+ghost use Rattle.grid.specs.Grid.{SaysNumber, SaysWord, IsNumberOf, WordReadsBack, CoordinatesReadBack, CellReadsBack, StepsOn};
 
 /// One of the four ways along a row or a column.
 #[derive(Clone, Copy, Debug, PartialEq, Eq)]
@@ -93,7 +93,7 @@ pub struct Grid {
 
 /// A row of a board and a column, both from 0.
 #[derive(Clone, Copy, Debug, PartialEq, Eq)]
-pub struct Place {
+pub struct Coordinates {
     pub row: usize,
     pub column: usize,
 }
@@ -106,29 +106,28 @@ impl Grid {
         usize::from(self.width) * usize::from(self.height)
     }
 
-    /// Where a cell lies; nowhere if it is not on the board.
-    pub fn place(self, cell: usize) -> Option<Place>
-        ensures named { result ≡ place_of self.width self.height cell }
-        ensures back { PlaceReadsBack self.width self.height cell }
+    /// The row and the column of a cell; none if it is not on the board.
+    pub fn coordinates(self, cell: usize) -> Option<Coordinates>
+        ensures named { result ≡ coordinates_of self.width self.height cell }
+        ensures back { CoordinatesReadBack self.width self.height cell }
     {
         if cell >= self.cells() {
             return None;
         }
         let width = usize::from(self.width);
-        Some(Place {
+        Some(Coordinates {
             row: cell / width,
             column: cell % width,
         })
     }
 
-    /// The cell at a place; none if the place is not on the board.
-    pub fn cell(self, place: Place) -> Option<usize>
-        ensures named { result ≡ cell_at self.width self.height place }
-        ensures back { CellReadsBack self.width self.height place }
+    /// The cell on a row and a column; none if they are not on the board.
+    pub fn cell(self, at: Coordinates) -> Option<usize>
+        ensures named { result ≡ cell_at self.width self.height at }
+        ensures back { CellReadsBack self.width self.height at }
     {
         let width = usize::from(self.width);
-        (place.row < usize::from(self.height) && place.column < width).then(|| place.row * width
-            + place.column)
+        (at.row < usize::from(self.height) && at.column < width).then(|| at.row * width + at.column)
     }
 
     /// The cell one step on from `cell`; none past the edge, and none from a cell that is not on the board.
@@ -136,21 +135,21 @@ impl Grid {
         ensures named { result ≡ neighbour self.width self.height cell direction }
         ensures onward { StepsOn self.width self.height cell direction }
     {
-        let Place { row, column } = self.place(cell)?;
+        let Coordinates { row, column } = self.coordinates(cell)?;
         let next = match direction {
-            Direction::Up => Place {
+            Direction::Up => Coordinates {
                 row: row.checked_sub(1)?,
                 column,
             },
-            Direction::Down => Place {
+            Direction::Down => Coordinates {
                 row: row + 1,
                 column,
             },
-            Direction::Left => Place {
+            Direction::Left => Coordinates {
                 row,
                 column: column.checked_sub(1)?,
             },
-            Direction::Right => Place {
+            Direction::Right => Coordinates {
                 row,
                 column: column + 1,
             },

@@ -2,7 +2,7 @@
 use Rattle.std.proofs.Common.{◌≡◌, ◌≢◌, ℕ, ◌+◌, ◌*◌, ◌<◌, ◌≤◌, Bool, cond, List, [], ◌∷◌, ◌++◌, length, get_or, set, Some, None, Option, sym, refl, ap, ◌∙◌, ◌⊎◌, inl, inr, add-one, arith}
 use Rattle.std.proofs.lemmas.Bool.{cases_eq, ne_eqb}
 use Rattle.std.proofs.lemmas.List.{length-set, get_or-set_same, get_or-set_other}
-use Rattle.hash_index.specs.Chains.{most_places, no_place, place_of, key_of, link_of, head_of, keys_of, bucket_of, added, IsLargest, IsInBucket, HeadsAreLast, LinksAreEarlier}
+use Rattle.hash_index.specs.inside.Chains.{most_places, no_place, place_of, key_of, link_of, head_of, keys_of, bucket_of, with_place, IsLargest, IsInBucket, HeadsAreLast, LinksAreEarlier}
 use Rattle.hash_index.proofs.Buckets.{bucket_below}
 use Rattle.hash_index.proofs.Largest.{largest_alike, largest_more}
 use Rattle.hash_index.proofs.Keys.{keys_alike}
@@ -24,7 +24,7 @@ module _ (numbers : List ℕ) (capacity place key : ℕ) (adds : Adds numbers ca
   bucket = bucket_of capacity key
 
   abbrev new : List ℕ
-  new = added numbers capacity place key
+  new = with_place numbers capacity place key
 
   head_in : bucket < capacity
   head_in = bucket_below capacity key (omega arith) adds.fits

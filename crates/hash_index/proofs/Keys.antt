@@ -4,7 +4,7 @@ use Rattle.std.specs.Prelude.{slice_get}
 use Rattle.std.proofs.lemmas.Bool.{cases_eq}
 use Rattle.std.proofs.lemmas.List.{length_push, get_or_push, get_or_append_left}
 use Rattle.std.proofs.lemmas.Option.{slice_get-get_or, slice_get_within}
-use Rattle.hash_index.specs.Chains.{key_of, keys_of}
+use Rattle.hash_index.specs.inside.Chains.{key_of, keys_of}
 
 module _ (numbers : List ℕ) where
   pub length_keys : (n : ℕ) → length (keys_of numbers n) ≡ n

@@ -2,7 +2,7 @@
 use Rattle.std.proofs.Common.{◌≡◌, ℕ, ◌+◌, ◌<◌, ◌≤◌, Some, None, Option, subst, ◌⊎◌, inl, inr, arith}
 use Rattle.std.specs.Prelude.{MatchOption, ⊤}
 use Rattle.std.proofs.lemmas.Bool.{cases_eq}
-use Rattle.hash_index.specs.Chains.{IsLargest}
+use Rattle.hash_index.specs.inside.Chains.{IsLargest}
 
 -- the largest for two that agree below n
 pub largest_alike : (Q R : ℕ → Type 0) (n : ℕ) (o : Option ℕ) → ((j : ℕ) → j < n → Q j → R j) → ((j : ℕ) → j < n → R j → Q j) → IsLargest Q n o → IsLargest R n o

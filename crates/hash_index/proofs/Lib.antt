@@ -3,4 +3,4 @@ pub mod Keys
 pub mod Buckets
 pub mod Adding
 pub mod Walking
-pub mod Shown
+pub mod Views

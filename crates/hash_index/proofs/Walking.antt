@@ -3,7 +3,7 @@ use Rattle.std.proofs.Common.{◌≡◌, ◌≢◌, ℕ, ◌+◌, ◌<◌, ◌�
 use Rattle.std.specs.Prelude.{MatchOption, ⊤}
 use Rattle.std.proofs.lemmas.Bool.{cases_order}
 use Rattle.hash_index.specs.Index.{IsLast}
-use Rattle.hash_index.specs.Chains.{key_of, link_of, keys_of, bucket_of, IsLargest, IsInBucket, LinksAreEarlier}
+use Rattle.hash_index.specs.inside.Chains.{key_of, link_of, keys_of, bucket_of, IsLargest, IsInBucket, LinksAreEarlier}
 use Rattle.hash_index.proofs.Keys.{key_there, key_is}
 
 module _ (numbers : List ℕ) (capacity key n : ℕ) where

@@ -12,19 +12,19 @@ abbrev pub fits : ℕ → List ℕ → Bool
 fits capacity numbers = nat_le capacity 1048576 && (length numbers == 3 * capacity)
 
 -- what `start` leaves
-abbrev pub Started : ℕ → Index → Bool → Index → Type 0
-Started capacity old true new = (new.keys ≡ []) × (new.capacity ≡ capacity) × (length new.numbers ≡ length old.numbers)
-Started capacity old false new = new ≡ old
+abbrev pub Starts : ℕ → Index → Bool → Index → Type 0
+Starts capacity old true new = (new.keys ≡ []) × (new.capacity ≡ capacity) × (length new.numbers ≡ length old.numbers)
+Starts capacity old false new = new ≡ old
 
 -- what `push` leaves: one key more
-pub record HasPushed (key : ℕ) (old new : Index) : Type 0 where
+pub record AddsKey (key : ℕ) (old new : Index) : Type 0 where
   pub keys : new.keys ≡ old.keys ++ (key ∷ [])
   pub capacity : new.capacity ≡ old.capacity
   pub numbers : length new.numbers ≡ length old.numbers
 
-abbrev pub Pushed : ℕ → Index → Bool → Index → Type 0
-Pushed key old true new = HasPushed key old new
-Pushed key old false new = new ≡ old
+abbrev pub Pushes : ℕ → Index → Bool → Index → Type 0
+Pushes key old true new = AddsKey key old new
+Pushes key old false new = new ≡ old
 
 -- the last place with a key, of those before place n
 abbrev pub IsLast : List ℕ → ℕ → ℕ → Option ℕ → Type 0

@@ -1,2 +1,2 @@
 pub mod Index
-pub mod Chains
+pub mod inside

@@ -1,5 +1,5 @@
 ghost use Rattle.std.specs.Prelude.{◌≡◌, ℕ, ◌+◌, ◌*◌, ◌<◌, ◌≤◌, None, length};
-ghost use Rattle.hash_index.specs.Chains.{most_places, place_of, key_of, link_of, head_of, bucket_of, added};
+ghost use Rattle.hash_index.specs.inside.Chains.{most_places, place_of, key_of, link_of, head_of, bucket_of, with_place};
 
 /// How many numbers a place takes: its key, and the place before it in its bucket.
 const KEY_AND_LINK: usize = 2;
@@ -19,7 +19,7 @@ pub(crate) struct Chains<'a> {
 }
 
 /// The bucket of a key, which is scaled to the buckets: that takes no division, and goes by the key's high bits.
-#[tactic(auto, unfolding(crate::specs::Chains::bucket_of), using(crate::proofs::Buckets::bucket_below))]
+#[tactic(auto, unfolding(crate::specs::inside::Chains::bucket_of), using(crate::proofs::Buckets::bucket_below))]
 pub(crate) fn bucket_of(capacity: usize, key: u32) -> usize
     requires some { 0 < capacity }
     requires few { capacity ≤ most_places }
@@ -52,7 +52,7 @@ fn add_to(numbers: &mut [u32], capacity: usize, place: usize, key: u32)
     requires few { capacity ≤ most_places }
     requires room { place < capacity }
     requires long { 3 * capacity ≤ length numbers.old }
-    ensures { numbers.new ≡ added numbers.old capacity place key }
+    ensures { numbers.new ≡ with_place numbers.old capacity place key }
 {
     let head = KEY_AND_LINK * capacity + bucket_of(capacity, key);
     let last = numbers[head];
@@ -77,7 +77,7 @@ impl<'a> Chains<'a> {
         requires few { capacity ≤ most_places }
         requires room { place < capacity }
         requires long { 3 * capacity ≤ length self.old.numbers.now }
-        ensures { self.new.numbers.now ≡ added self.old.numbers.now capacity place key }
+        ensures { self.new.numbers.now ≡ with_place self.old.numbers.now capacity place key }
     {
         add_to(self.numbers, capacity, place, key);
     }

@@ -16,9 +16,9 @@ impl<'a> Model for HashIndex<'a> {
 
     ghost Value = { Index };
 
-    ghost use Rattle.hash_index.specs.Chains.{shown, IsIndex};
+    ghost use Rattle.hash_index.specs.inside.Chains.{index_of, IsIndex};
 
-    ghost view = { shown };
+    ghost view = { index_of };
 
     ghost invariant = { IsIndex };
 }

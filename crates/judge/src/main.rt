@@ -5,75 +5,27 @@
 #![tactic(auto)]
 
 use judgement::{judge_texts, report};
-use std::io::{Read, Write};
 use std::process::ExitCode;
-use std::{env, fmt, fs, io};
+use streams::{Failure, arguments, end, end_with_usage, read_path, write_answer};
 
-/// What failed, by its name, and why.
-#[derive(Drop)]
-struct Failure<'a> {
-    name: &'a str,
-    error: io::Error,
-}
-
-impl fmt::Display for Failure<'_> {
-    fn fmt<W: fmt::Write>(&self, f: &mut fmt::Formatter<W>) -> fmt::Result {
-        let Failure { name, error } = self;
-        write!(f, "judge: {name}: {error}")
-    }
-}
-
-/// All bytes of the file of that path, or of standard input for `-`.
-fn read_bytes<'a>(rt: &HostRuntime, name: &'a str) -> Result<Vec<u8>, Failure<'a>> {
-    let bytes = if name == "-" {
-        let mut bytes = Vec::new(rt.alloc());
-        rt.stdin().read_to_end(&mut bytes).map(|_| bytes)
-    } else {
-        fs::read(rt, name)
-    };
-    bytes.map_err(|error| Failure { name, error })
-}
-
-/// Writes the answer to standard output.
-fn write_answer(rt: &HostRuntime, answer: &str) -> io::Result<()> {
-    let mut out = rt.stdout();
-    out.write_all(answer.as_bytes())?;
-    out.flush()
-}
+/// The program's name, under which it says what failed.
+const NAME: &str = "judge";
 
 fn judge_files<'a>(rt: &HostRuntime, level: &'a str, way: &'a str) -> Result<(), Failure<'a>> {
-    let level_text = read_bytes(rt, level)?;
-    let way_text = read_bytes(rt, way)?;
-    let judgement = judge_texts(&level_text, &way_text);
-    let answer = report(rt.alloc(), judgement).map_err(|error| Failure {
-        name: "the answer",
-        error: error.into(),
-    })?;
-    write_answer(rt, &answer).map_err(|error| Failure {
-        name: "standard output",
-        error,
-    })
-}
-
-/// Says on standard error why the program fails, and gives the status to end with.
-fn fail(rt: &HostRuntime, why: impl fmt::Display + Drop) -> ExitCode {
-    let _ = eprintln!(rt; "{why}");
-    ExitCode::FAILURE
+    let level_text = read_path(rt, level)?;
+    let way_text = read_path(rt, way)?;
+    let answer = report(rt.alloc(), judge_texts(&level_text, &way_text))?;
+    write_answer(rt, answer.as_bytes())
 }
 
 fn main(rt: HostRuntime) -> ExitCode {
-    let mut args = match env::args(&rt) {
+    let mut args = match arguments(&rt) {
         Ok(args) => args.skip(1),
-        Err(error) => {
-            let name = "arguments";
-            return fail(&rt, Failure { name, error });
-        }
+        Err(failure) => return end(&rt, NAME, Err(failure)),
     };
     let (Some(level), Some(way), None) = (args.next(), args.next(), args.next()) else {
-        return fail(&rt, "usage: judge LEVEL WAY");
+        return end_with_usage(&rt, "judge LEVEL WAY");
     };
-    match judge_files(&rt, &level, &way) {
-        Ok(()) => ExitCode::SUCCESS,
-        Err(failure) => fail(&rt, failure),
-    }
+    let outcome = judge_files(&rt, &level, &way);
+    end(&rt, NAME, outcome)
 }

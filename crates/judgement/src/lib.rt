@@ -1,26 +1,38 @@
-//! The judgement of a written way for a level of either kind, from text to text.
+//! The judgement of a written way for a level of any kind, from text to text.
 #![tactic(auto)]
 
 ghost use Rattle.std.specs.Prelude.{◌≡◌, IfOk, string_bytes};
-ghost use Rattle.judgement.specs.Judgement.{judged_texts, JudgesExactly, report_text};
+ghost use Rattle.judgement.specs.Judgement.{judgement_of_texts, JudgesWay, JudgesExactly, AcceptsSolutions, report_text};
 
-use atoms_ways::AtomKind;
-use levels::{Level, read_level};
+use levels::{LevelVisitor, read_level};
 use refusals::Refusal;
 use std::alloc::{AllocError, Global};
-use tiles_ways::TileKind;
-use ways::judge;
+use ways::{Notation, judge};
 
-/// Judges a way for a level of either kind, both as texts: the number of moves of an accepted way, the refusal of the
+/// Judges a way, as a text, for the level that it visits.
+#[derive(Drop)]
+struct WayJudge<'a> {
+    way_text: &'a [u8],
+}
+
+impl<'a> LevelVisitor for WayJudge<'a> {
+    type Output = Result<u32, Refusal>;
+
+    ghost Gives = { λ judge rules judgement. JudgesWay rules judge.way_text.now judgement };
+
+    fn visit<L: Notation>(self, level: &L) -> Result<u32, Refusal> {
+        judge(level, self.way_text)
+    }
+}
+
+/// Judges a way for a level of any kind, both as texts: the number of moves of an accepted way, the refusal of the
 /// level, or the refusal of the way.
 pub fn judge_texts(level_text: &[u8], way_text: &[u8]) -> Result<u32, Refusal>
-    ensures answers { result ≡ judged_texts level_text.now way_text.now }
+    ensures answers { result ≡ judgement_of_texts level_text.now way_text.now }
     ensures exactly { JudgesExactly level_text.now way_text.now }
+    ensures solves { AcceptsSolutions level_text.now way_text.now }
 {
-    match read_level(level_text)? {
-        Level::Tiles(level) => judge(&TileKind(level), way_text),
-        Level::Atoms(level) => judge(&AtomKind(level), way_text),
-    }
+    read_level(level_text)?.accept(WayJudge { way_text })
 }
 
 /// The line that reports a judgement: `(accepted N)` or `(fault NUMBER LINE)`.

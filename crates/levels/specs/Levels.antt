@@ -1,55 +1,81 @@
--- A level of either kind, and its text. Assumes nothing.
-use Rattle.std.specs.Prelude.{◌≡◌, ℕ, Bool, cond, List, take, Ok, Err, codes, Result}
+-- Levels of every kind: which kind a text is of, how a level is written, its game and how its moves are written. Assumes nothing.
+use Rattle.std.specs.Prelude.{ℕ, cond, List, Some, None, Err, codes, Option, Result}
 use Rattle.std.specs.Str.{bytes_eq}
+use Rattle.refusals.specs.declared.Fault.TheVariants.{NotText, LineForm}
 use Rattle.refusals.specs.declared.Refusal.{Refusal}
+use Rattle.refusals.specs.Refusals.{refusal}
+use Rattle.puzzle.specs.Game.{Game}
+use Rattle.text.specs.Lines.{is_text}
+use Rattle.text.specs.Reading.{map_ok}
+use Rattle.text.specs.Forms.{first_keyword}
+use Rattle.text.specs.LevelReading as reading
+use Rattle.ways.specs.Notations.{Spelling}
 use Rattle.tiles.specs.Level as tile
+use Rattle.tiles.specs.WrittenMoves as tile_moves
+use Rattle.tiles.specs.LevelText.Writing as tile_text
+use Rattle.tiles.specs.LevelText.Reading as tile_reading
 use Rattle.atoms.specs.Level as atom
-use Rattle.tiles_text.specs.Writing as tile_text
-use Rattle.atoms_text.specs.Writing as atom_text
-use Rattle.tiles_text.specs.Reading as tile_reading
-use Rattle.atoms_text.specs.Reading as atom_reading
-use Rattle.levels.specs.declared.Level as code
-use Rattle.levels.specs.declared.Level.TheVariants as coded
+use Rattle.atoms.specs.WrittenMoves as atom_moves
+use Rattle.atoms.specs.LevelText.Writing as atom_text
+use Rattle.atoms.specs.LevelText.Reading as atom_reading
+use Rattle.levels.specs.declared.level.Level as code
+use Rattle.levels.specs.declared.level.Level.TheVariants as coded
+
+-- a game and how its moves are written, whatever its positions are
+pub record Rules : Type 1 where
+  pub Position : Type 0
+  pub Written : Type 0
+  pub game : Game Position
+  pub spelling : Spelling Position Written
+
+abbrev pub rules_of : {P W : Type 0} → Game P → Spelling P W → Rules
+rules_of {P} {W} g k = record { Position = P; Written = W; game = g; spelling = k }
 
 pub data Level : Type 0 where
   tiles : tile.Tiles → Level
   atoms : atom.Atoms → Level
 
--- the text of a level
+-- what depends on a level's kind
+pub record Kind : Type 1 where
+  -- the level written out
+  pub text : List ℕ
+  -- what makes it a level
+  pub Valid : Type 0
+  pub rules : Rules
+
+-- the one place where kinds are told apart
+abbrev pub kind : Level → Kind
+kind (tiles l) = record { text = tile_text.level_text l; Valid = tile.Valid l; rules = rules_of (tile.game l) (tile_moves.spelling l) }
+kind (atoms l) = record { text = atom_text.level_text l; Valid = atom.Valid l; rules = rules_of (atom.game l) (atom_moves.spelling l) }
+
 abbrev pub level_text : Level → List ℕ
-level_text (tiles l) = tile_text.level_text l
-level_text (atoms l) = atom_text.level_text l
+level_text l = (kind l).text
 
--- what makes a level, by its kind
 abbrev pub Valid : Level → Type 0
-Valid (tiles l) = tile.Valid l
-Valid (atoms l) = atom.Valid l
+Valid l = (kind l).Valid
 
--- a text begins like that of an atom level
-abbrev pub says_atoms : List ℕ → Bool
-says_atoms text = bytes_eq (take 8 text) (codes "(atomix ")
+abbrev pub rules : Level → Rules
+rules l = (kind l).rules
 
-abbrev pub as_tiles : Result tile.Tiles Refusal → Result Level Refusal
-as_tiles (Ok l) = Ok (tiles l)
-as_tiles (Err e) = Err e
+-- why a text is no level that begins with the keyword of no kind
+abbrev pub kindless : List ℕ → Refusal
+kindless text = cond (is_text text) (refusal LineForm 1) (refusal NotText 0)
 
-abbrev pub as_atoms : Result atom.Atoms Refusal → Result Level Refusal
-as_atoms (Ok l) = Ok (atoms l)
-as_atoms (Err e) = Err e
+-- by the keyword of the first line
+abbrev pub level_by_keyword : Option (List ℕ) → List ℕ → Result Level Refusal
+level_by_keyword (Some keyword) text =
+    cond (bytes_eq keyword (codes "tiles")) (map_ok tiles (tile_reading.read_level text))
+    (cond (bytes_eq keyword (codes "atomix")) (map_ok atoms (atom_reading.read_level text)) (Err (kindless text)))
+level_by_keyword None text = Err (kindless text)
 
 -- the level that a text spells, or why it spells none
 abbrev pub read_level : List ℕ → Result Level Refusal
-read_level text = cond (says_atoms text) (as_atoms (atom_reading.read_level text)) (as_tiles (tile_reading.read_level text))
+read_level text = level_by_keyword (first_keyword text) text
 
-abbrev pub shown : code.Level → Level
-shown (coded.Tiles l) = tiles (tile.tiles l)
-shown (coded.Atoms l) = atoms (atom.atoms l)
-
-abbrev pub told : Result code.Level Refusal → Result Level Refusal
-told (Ok l) = Ok (shown l)
-told (Err e) = Err e
+abbrev pub level_value : code.Level → Level
+level_value (coded.Tiles l) = tiles (tile.tiles l)
+level_value (coded.Atoms l) = atoms (atom.atoms l)
 
 -- a text is read as a level exactly where it is that level written out
-pub record ReadsExactly (text : List ℕ) : Type 0 where
-  pub only : (l : Level) → read_level text ≡ Ok l → Valid l × (text ≡ level_text l)
-  pub all : (l : Level) → Valid l → read_level (level_text l) ≡ Ok l
+abbrev pub ReadsExactly : List ℕ → Type 0
+ReadsExactly text = reading.ReadsExactly read_level Valid level_text text

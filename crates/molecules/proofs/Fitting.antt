@@ -9,20 +9,20 @@ use Rattle.pictures.specs.declared.cell.Cell.{Cell}
 use Rattle.pictures.specs.declared.cell.Cell.TheVariants.{Wall}
 use Rattle.pictures.specs.Pictures.{Shape, cell_at}
 use Rattle.molecules.specs.Atoms.{is_atom, is_wall}
-use Rattle.molecules.specs.Places.{under, GoalPlace, is_place}
+use Rattle.molecules.specs.GoalPlaces.{cell_under, IsGoalPlace, is_goal_place}
 use Rattle.molecules.proofs.Below.{every_below_lem, every_below_from}
 
--- m lies on b with its first cell on `place`
-module _ (b m : Shape) (place : ℕ) where
+-- m lies on b with its first cell on `goal_place`
+module _ (b m : Shape) (goal_place : ℕ) where
   -- whether cell i of the molecule is no atom or lies on no wall
   abbrev lies : ℕ → Bool
-  lies i = not (is_atom (cell_at m i)) || not (is_wall (under b m place i))
+  lies i = not (is_atom (cell_at m i)) || not (is_wall (cell_under b m goal_place i))
 
   -- where there is no atom, or no wall
   no_atom_lies : (i : ℕ) → is_atom (cell_at m i) ≡ false → lies i ≡ true
   no_atom_lies i e = or_left _ _ (not_from_false _ e)
 
-  no_wall_lies : (i : ℕ) → is_wall (under b m place i) ≡ false → lies i ≡ true
+  no_wall_lies : (i : ℕ) → is_wall (cell_under b m goal_place i) ≡ false → lies i ≡ true
   no_wall_lies i e = or_right _ _ (not_from_false _ e)
 
   -- an atom is one of the molecule's cells
@@ -31,22 +31,22 @@ module _ (b m : Shape) (place : ℕ) where
       ⊎_elim (λ h. h) (λ past. absurd (both_ways _ (ap is_atom (get_or_past m.cells i Wall past)) e)) (cases_lt i (length m.cells))
 
   -- the test says whether every atom falls on no wall
-  pub place_is_goal : is_place b m place ≡ true → GoalPlace b m place
-  place_is_goal e i atom =
+  pub is_goal_place_lem : is_goal_place b m goal_place ≡ true → IsGoalPlace b m goal_place
+  is_goal_place_lem e i atom =
       ⊎_elim (λ none. absurd (both_ways _ (not-true _ none) atom)) (not-true _)
       (or_cases _ _ (every_below_lem (length m.cells) (λ k. lies k) e i (atom_inside i atom)))
 
-  pub goal_is_place : GoalPlace b m place → is_place b m place ≡ true
-  goal_is_place goal =
+  pub is_goal_place_from : IsGoalPlace b m goal_place → is_goal_place b m goal_place ≡ true
+  is_goal_place_from goal =
       every_below_from (length m.cells) (λ k. lies k)
       (λ i h. ⊎_elim (λ atom. no_wall_lies i (goal i atom)) (no_atom_lies i) (cases_Bool (is_atom (cell_at m i))))
 
   -- the same, asked of a cell of the molecule with its number
   abbrev pub lies_numbered : ℕ × Cell → Bool
-  lies_numbered p = not (is_atom p.1) || not (is_wall (under b m place p.0))
+  lies_numbered p = not (is_atom p.1) || not (is_wall (cell_under b m goal_place p.0))
 
-  pub is_place_numbered : list_all lies_numbered (enumerate_from 0 m.cells) ≡ is_place b m place
-  is_place_numbered =
+  pub is_goal_place_numbered : list_all lies_numbered (enumerate_from 0 m.cells) ≡ is_goal_place b m goal_place
+  is_goal_place_numbered =
       let numbered : ℕ → ℕ × Cell = λ k. (k, cell_at m k) in
       ap (list_all lies_numbered)
       (fill_by_all numbered (enumerate_from 0 m.cells) _ (0, Wall) (length-enumerate_from 0 m.cells) (λ k h. get_or-enumerate_from 0 m.cells k (0, Wall) h ∙ ap (λ j. (j, cell_at m k)) (zero-add k)))

@@ -8,7 +8,7 @@ use Rattle.pictures.specs.declared.cell.Cell.{Cell}
 use Rattle.pictures.specs.declared.cell.Cell.TheVariants.{Wall}
 use Rattle.pictures.specs.Pictures.{Shape, cell_at}
 use Rattle.molecules.specs.Atoms.{has_label}
-use Rattle.molecules.specs.Places.{wants, Wanted, WantsExactly}
+use Rattle.molecules.specs.GoalPlaces.{wants, LiesOver, WantsExactly}
 
 -- the label of the cell of m that is over row r and column c, where m begins at row `top` and column `left`
 abbrev label_over : Shape → ℕ → ℕ → ℕ → ℕ → ℕ → Bool
@@ -29,15 +29,15 @@ covered w top left r c e = (grind (arith, nat_tests), grind (arith, nat_tests), 
 label_over_lem : (m : Shape) (label top left d a : ℕ) → a < m.width → label_over m label top left (top + d) (left + a) ≡ has_label label (cell_at m (at m.width d a))
 label_over_lem m label top left d a h = grind (arith, nat_tests)
 
--- m lies on b with its first cell on `place`
-module _ (b m : Shape) (place cell label : ℕ) where
+-- m lies on b with its first cell on `goal_place`
+module _ (b m : Shape) (goal_place cell label : ℕ) where
   -- the wanted atom lies over the cell
-  wants_to : wants b m place cell label ≡ true → Wanted b m place cell label
+  wants_to : wants b m goal_place cell label ≡ true → LiesOver b m goal_place cell label
   wants_to e =
-      let d = row b.width cell - row b.width place in
-      let a = column b.width cell - column b.width place in
+      let d = row b.width cell - row b.width goal_place in
+      let a = column b.width cell - column b.width goal_place in
       let p = labelled_parts label _ (cell_at m (at m.width d a)) e in
-      let h = covered m.width (row b.width place) (column b.width place) (row b.width cell) (column b.width cell) p.0 in
+      let h = covered m.width (row b.width goal_place) (column b.width goal_place) (row b.width cell) (column b.width cell) p.0 in
       record {
         part = at m.width d a;
         labelled = p.1;
@@ -46,15 +46,15 @@ module _ (b m : Shape) (place cell label : ℕ) where
       }
 
   -- an atom over the cell is wanted
-  wants_from : 1 ≤ m.width → Wanted b m place cell label → wants b m place cell label ≡ true
+  wants_from : 1 ≤ m.width → LiesOver b m goal_place cell label → wants b m goal_place cell label ≡ true
   wants_from wide w =
-      let over = label_over m label (row b.width place) (column b.width place) in
+      let over = label_over m label (row b.width goal_place) (column b.width goal_place) in
       ap (λ r. over r (column b.width cell)) w.down
-      ∙ ap (λ c. over (row b.width place + row m.width w.part) c) w.across
+      ∙ ap (λ c. over (row b.width goal_place + row m.width w.part) c) w.across
       ∙ label_over_lem m label _ _ (row m.width w.part) _ (mod_below w.part m.width wide)
       ∙ ap (λ i. has_label label (cell_at m i)) (div-add-mod' w.part m.width)
       ∙ w.labelled
 
   -- what is wanted lies over the cell, and the other way round
-  pub wants_exactly : 1 ≤ m.width → WantsExactly b m place cell label
+  pub wants_exactly : 1 ≤ m.width → WantsExactly b m goal_place cell label
   wants_exactly wide = (wants_to, wants_from wide)

@@ -5,9 +5,9 @@ use Rattle.std.proofs.lemmas.List.FromFn.{length-range_with_len}
 use Rattle.std.proofs.lemmas.List.Elements.{All-from_get_or, All-contains, All-filter, filter-append, filter_passes, Contains-append_left, Contains-push}
 use Rattle.std.proofs.lemmas.Bool.{cases_lt, cond-true, cond-false}
 use Rattle.pictures.specs.Pictures.{Shape}
-use Rattle.molecules.specs.Places.{is_place, ListsExactly}
+use Rattle.molecules.specs.GoalPlaces.{is_goal_place, ListsExactly}
 use Rattle.molecules.proofs.Below.{below_at, below_more}
-use Rattle.molecules.proofs.Fitting.{place_is_goal, goal_is_place}
+use Rattle.molecules.proofs.Fitting.{is_goal_place_lem, is_goal_place_from}
 
 -- each counted number is below the bound
 counting_below : (n : ℕ) → All (λ k. k < n) (range_with_len 0 n)
@@ -53,6 +53,6 @@ module _ (test : ℕ → Bool) where
 -- the list has the goal places, and nothing else
 pub lists_exactly : (b m : Shape) → ListsExactly b m
 lists_exactly b m p = (
-  λ has. let h = passing_only (is_place b m) _ p has in (h.0, place_is_goal b m p h.1),
-  λ h. passing_has (is_place b m) _ p h.0 (goal_is_place b m p h.1),
+  λ has. let h = passing_only (is_goal_place b m) _ p has in (h.0, is_goal_place_lem b m p h.1),
+  λ h. passing_has (is_goal_place b m) _ p h.0 (is_goal_place_from b m p h.1),
 )

@@ -7,7 +7,7 @@ use Rattle.pictures.specs.declared.cell.Cell.TheVariants.{Wall, Free, Atom}
 use Rattle.pictures.specs.Cells.{cell_of, cells_of}
 use Rattle.pictures.specs.Pictures.{Shape, shape_of, with_row}
 use Rattle.pictures.proofs.Drawn.{parts}
-use Rattle.molecules.specs.Atoms.{is_wall, Unwalled, any_wall}
+use Rattle.molecules.specs.Atoms.{is_wall, Unwalled, draws_wall}
 
 -- no cell is a wall
 abbrev Open : List Cell → Type 0
@@ -32,11 +32,11 @@ open_cell c Free e other = refl
 open_cell c (Atom label) e other = refl
 
 -- so a row without it has no wall
-open_row : (row : List ℕ) (xs : List Cell) → cells_of row ≡ Some xs → any_wall row ≡ false → Open xs
+open_row : (row : List ℕ) (xs : List Cell) → cells_of row ≡ Some xs → draws_wall row ≡ false → Open xs
 open_row [] xs e none = let same : [] ≡ xs = cc in subst Open same (λ i. refl)
 open_row (c ∷ cs) xs e none =
     let p = parts (cell_of c) (cells_of cs) xs e in
-    let n = or_parts (eqb c 35) (any_wall cs) none in
+    let n = or_parts (eqb c 35) (draws_wall cs) none in
     subst Open p.4 (open_cons p.0 p.1 (open_cell c p.0 p.2 n.0) (open_row cs p.1 p.3 n.1))
 
 -- the cells of a picture with one row more
@@ -46,7 +46,7 @@ longer s t true None e = cc
 longer s t false o e = cc
 
 -- they are no walls
-pub unwalled_row : (s t : Shape) (row : List ℕ) → Unwalled s → any_wall row ≡ false → Some t ≡ with_row s row → Unwalled t
+pub unwalled_row : (s t : Shape) (row : List ℕ) → Unwalled s → draws_wall row ≡ false → Some t ≡ with_row s row → Unwalled t
 unwalled_row s t row before none e =
     let p = longer s t _ (cells_of row) (sym e) in
     subst Open p.2 (open_append s.cells p.0 before (open_row row p.0 p.1 none))

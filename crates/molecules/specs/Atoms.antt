@@ -28,12 +28,12 @@ abbrev pub Unwalled : Shape → Type 0
 Unwalled s = (i : ℕ) → is_wall (slice_index_or s.cells i Free) ≡ false
 
 -- whether a character draws a wall
-abbrev pub any_wall : List ℕ → Bool
-any_wall row = list_any (λ c. c == 35) row
+abbrev pub draws_wall : List ℕ → Bool
+draws_wall row = list_any (λ c. c == 35) row
 
 -- one row more, of `.` and letters
 abbrev pub with_want : Shape → List ℕ → Option Shape
-with_want s row = cond (any_wall row) None (with_row s row)
+with_want s row = cond (draws_wall row) None (with_row s row)
 
 -- how many atoms there are, and how many of a label
 abbrev pub atom_count : Shape → ℕ
@@ -51,17 +51,17 @@ abbrev pub SameLabels : Shape → Shape → Type 0
 SameLabels b m = (label : ℕ) → label_count b label ≡ label_count m label
 
 -- an atom is at a row and a column
-abbrev pub atom_at : Shape → ℕ → ℕ → Bool
-atom_at s r c = is_atom (cell_at s (at s.width r c))
+abbrev pub is_atom_at : Shape → ℕ → ℕ → Bool
+is_atom_at s r c = is_atom (cell_at s (at s.width r c))
 
 -- a row, a column holds an atom
 abbrev pub row_holds : Shape → ℕ → Bool
-row_holds s r = some_below s.width (λ c. atom_at s r c)
+row_holds s r = some_below s.width (λ c. is_atom_at s r c)
 
 abbrev pub column_holds : Shape → ℕ → Bool
-column_holds s c = some_below s.height (λ r. atom_at s r c)
+column_holds s c = some_below s.height (λ r. is_atom_at s r c)
 
 -- each edge row and each edge column holds an atom
-abbrev pub edged : Shape → Bool
-edged s =
+abbrev pub is_edged : Shape → Bool
+is_edged s =
     (row_holds s 0 && row_holds s (s.height - 1)) && (column_holds s 0 && column_holds s (s.width - 1))

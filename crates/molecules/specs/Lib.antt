@@ -1,4 +1,4 @@
 pub mod Below
 pub mod Atoms
 pub mod Molecules
-pub mod Places
+pub mod GoalPlaces

@@ -2,10 +2,10 @@
 use Rattle.std.proofs.Common.{◌≡◌, ◌≢◌, ℕ, ◌+◌, ◌-◌, ◌*◌, ◌<◌, ◌≤◌, true, nat_lt, List, [], ◌∷◌, ◌++◌, length, set, refl, ap, sym, subst, ◌∙◌, arith, ⊎_elim}
 use Rattle.std.proofs.lemmas.Bool.{cases_eq, lt-ltb}
 use Rattle.open_list.specs.declared.heap.Sizes.{Sizes}
-use Rattle.open_list.specs.Entries.{entry, closed}
-use Rattle.open_list.specs.Layout.{depth_of, floor_of, slot_of, place_in, no_slot, entry_at, entries, rank}
-use Rattle.open_list.specs.Sifting.{Arranged, Rising, Sinking, Sifted}
-use Rattle.open_list.specs.Changing.{Leaves}
+use Rattle.open_list.specs.Entries.{entry, closed_entry}
+use Rattle.open_list.specs.inside.Layout.{depth_of, floor_of, slot_of, place_in, no_slot, entry_at, entries, rank}
+use Rattle.open_list.specs.inside.Sifting.{IsArranged, MayRise, MaySink, SiftsIn}
+use Rattle.open_list.specs.inside.Changing.{Leaves}
 use Rattle.open_list.proofs.Lists.{entries_set, entries_more}
 use Rattle.open_list.proofs.Writes.{Written, depth_written, floor_written, slot_written, both_written}
 use Rattle.open_list.proofs.Room.{one_more}
@@ -17,11 +17,11 @@ unfolding rank
 rank_lower old start place d f = omega arith
 
 -- the entry of a place that was written and sifted
-entry_sifted : (old start new : List ℕ) (s r : Sizes) (place depth floor slot : ℕ) → Written place s.capacity depth floor slot old start → Sifted place start new r → entry_at new place ≡ entry depth floor true
+entry_sifted : (old start new : List ℕ) (s r : Sizes) (place depth floor slot : ℕ) → Written place s.capacity depth floor slot old start → SiftsIn place start new r → entry_at new place ≡ entry depth floor true
 entry_sifted old start new s r place depth floor slot w sift = cc (sift.here, w.depth, w.floor)
 
 -- a place that was open has its entry still
-entry_still : (start new : List ℕ) (r : Sizes) (held i : ℕ) → Sifted held start new r → slot_of start held < no_slot → i < r.used → entry_at new i ≡ entry_at start i
+entry_still : (start new : List ℕ) (r : Sizes) (held i : ℕ) → SiftsIn held start new r → slot_of start held < no_slot → i < r.used → entry_at new i ≡ entry_at start i
 entry_still start new r held i sift was_open h =
     ⊎_elim
     (λ (e : i ≡ held).
@@ -31,7 +31,7 @@ entry_still start new r held i sift was_open h =
     (λ (ne : i ≢ held). sift.same.others i h ne)
     (cases_eq i held)
 
-module _ (old : List ℕ) (s : Sizes) (a : Arranged old s) where
+module _ (old : List ℕ) (s : Sizes) (a : IsArranged old s) where
   -- a place more
   module _ (depth floor : ℕ) (small : floor < 65536) (room : s.used < s.capacity) (mid start : List ℕ) (one : mid ≡ set old (3 * s.used) depth) (two : start ≡ set mid (3 * s.used + 1) floor) where
     abbrev more : Sizes
@@ -39,15 +39,15 @@ module _ (old : List ℕ) (s : Sizes) (a : Arranged old s) where
 
     added_written : Written s.used s.capacity depth floor (slot_of old s.used) old start
     added_written =
-        let first = depth_written s.capacity s.used old a.stored.room room depth mid one in
-        let then = floor_written s.capacity s.used mid (omega (arith, a.stored.room, first.long)) room floor start two in
+        let first = depth_written s.capacity s.used old a.has_room.room room depth mid one in
+        let then = floor_written s.capacity s.used mid (omega (arith, a.has_room.room, first.long)) room floor start two in
         both_written s.used s.capacity depth floor (slot_of old s.used) (floor_of old s.used) old mid start first then
 
-    pub added_rises : Rising (rank start) start more s.queued s.used
+    pub added_rises : MayRise (rank start) start more s.queued s.used
     added_rises =
-        appended old start s a s.used depth floor (slot_of old s.used) small added_written (s.used + 1) (omega arith) (omega arith) (omega arith) (λ i h ne. omega arith) (omega (arith, a.stored.in_heap)) (λ j h q. omega (arith, (a.slots j h).0))
+        appended old start s a s.used depth floor (slot_of old s.used) small added_written (s.used + 1) (omega arith) (omega arith) (omega arith) (λ i h ne. omega arith) (omega (arith, a.has_room.in_heap)) (λ j h q. omega (arith, (a.slots j h).0))
 
-    pub added_leaves : (new : List ℕ) → Sifted s.used start new more → Leaves old new s more (entries old s.used ++ (entry depth floor true ∷ []))
+    pub added_leaves : (new : List ℕ) → SiftsIn s.used start new more → Leaves old new s more (entries old s.used ++ (entry depth floor true ∷ []))
     added_leaves new sift = record {
       arranged = sift.arranged;
       capacity = refl;
@@ -63,28 +63,28 @@ module _ (old : List ℕ) (s : Sizes) (a : Arranged old s) where
   -- a place with fewer moves
   module _ (place depth : ℕ) (inside : place < s.used) (fewer : depth < depth_of old place) (start : List ℕ) (is : start ≡ set old (3 * place) depth) where
     lowered_written : Written place s.capacity depth (floor_of old place) (slot_of old place) old start
-    lowered_written = depth_written s.capacity place old a.stored.room (omega (arith, a.stored.in_use)) depth start is
+    lowered_written = depth_written s.capacity place old a.has_room.room (omega (arith, a.has_room.in_use)) depth start is
 
     small_floor : floor_of old place < 65536
-    small_floor = a.stored.floors place inside
+    small_floor = a.has_room.floors place inside
 
-    pub lowered_rises : slot_of old place < no_slot → Rising (rank start) start s (slot_of old place) place
+    pub lowered_rises : slot_of old place < no_slot → MayRise (rank start) start s (slot_of old place) place
     lowered_rises is_open =
         raised old start s a place depth (floor_of old place) (slot_of old place) small_floor lowered_written inside is_open (rank_lower old start place (omega (arith, lowered_written.depth)) lowered_written.floor)
 
     -- a closed place is in no slot, so there is one more
     pub outside : no_slot ≤ slot_of old place → (j : ℕ) → j < s.queued → place_in old s.capacity j ≢ place
-    outside shut j h = λ q. omega (arith, ap (slot_of old) q, (a.slots j h).1, a.stored.few, a.stored.in_use, a.stored.in_heap)
+    outside shut j h = λ q. omega (arith, ap (slot_of old) q, (a.slots j h).1, a.has_room.few, a.has_room.in_use, a.has_room.in_heap)
 
     pub slot_free : no_slot ≤ slot_of old place → s.queued + 1 ≤ s.used
     slot_free shut =
         one_more (slot_of old) (place_in old s.capacity) s.queued s.used place inside (λ j h. ((a.slots j h).0, outside shut j h, (a.slots j h).1))
 
-    pub lowered_opens : no_slot ≤ slot_of old place → Rising (rank start) start (record { capacity = s.capacity; used = s.used; queued = s.queued + 1 }) s.queued place
+    pub lowered_opens : no_slot ≤ slot_of old place → MayRise (rank start) start (record { capacity = s.capacity; used = s.used; queued = s.queued + 1 }) s.queued place
     lowered_opens shut =
-        appended old start s a place depth (floor_of old place) (slot_of old place) small_floor lowered_written s.used inside a.stored.in_use (omega arith) (λ i h ne. h) (slot_free shut) (outside shut)
+        appended old start s a place depth (floor_of old place) (slot_of old place) small_floor lowered_written s.used inside a.has_room.in_use (omega arith) (λ i h ne. h) (slot_free shut) (outside shut)
 
-    pub lowered_leaves : (queued : ℕ) (new : List ℕ) → Sifted place start new (record { capacity = s.capacity; used = s.used; queued = queued }) → Leaves old new s (record { capacity = s.capacity; used = s.used; queued = queued }) (set (entries old s.used) place (entry depth (floor_of old place) true))
+    pub lowered_leaves : (queued : ℕ) (new : List ℕ) → SiftsIn place start new (record { capacity = s.capacity; used = s.used; queued = queued }) → Leaves old new s (record { capacity = s.capacity; used = s.used; queued = queued }) (set (entries old s.used) place (entry depth (floor_of old place) true))
     lowered_leaves queued new sift =
         let r : Sizes = record { capacity = s.capacity; used = s.used; queued = queued } in
         record {
@@ -111,32 +111,32 @@ module _ (old : List ℕ) (s : Sizes) (a : Arranged old s) where
 
     closed_written : Written head s.capacity (depth_of old head) (floor_of old head) no_slot old start
     closed_written =
-        slot_written s.capacity head old a.stored.room (omega (arith, head_in, a.stored.in_use)) no_slot start (is ∙ ap (λ k. set old (3 * k + 2) no_slot) is_first)
+        slot_written s.capacity head old a.has_room.room (omega (arith, head_in, a.has_room.in_use)) no_slot start (is ∙ ap (λ k. set old (3 * k + 2) no_slot) is_first)
 
     others : (i : ℕ) → i ≢ head → entry_at start i ≡ entry_at old i
-    others i ne = entry_else old start s a head _ _ no_slot (a.stored.floors head head_in) closed_written i ne
+    others i ne = entry_else old start s a head _ _ no_slot (a.has_room.floors head head_in) closed_written i ne
 
-    leaves_closed : (new : List ℕ) → Arranged new fewer_sizes → length new ≡ length start → ((i : ℕ) → i < s.used → entry_at new i ≡ entry_at start i) → Leaves old new s fewer_sizes (set (entries old s.used) head (closed (entry_at old head)))
+    leaves_closed : (new : List ℕ) → IsArranged new fewer_sizes → length new ≡ length start → ((i : ℕ) → i < s.used → entry_at new i ≡ entry_at start i) → Leaves old new s fewer_sizes (set (entries old s.used) head (closed_entry (entry_at old head)))
     leaves_closed new arranged long same = record {
       arranged = arranged;
       capacity = refl;
       long = long ∙ closed_written.long;
-      entries = entries_set old new s.used head (closed (entry_at old head)) head_in (λ i h ne. same i h ∙ others i ne) (same head head_in ∙ entry_closed old start s a some closed_written);
+      entries = entries_set old new s.used head (closed_entry (entry_at old head)) head_in (λ i h ne. same i h ∙ others i ne) (same head head_in ∙ entry_closed old start s a some closed_written);
     }
 
-    pub closed_empty : s.queued - 1 ≤ 0 → Leaves old start s fewer_sizes (set (entries old s.used) head (closed (entry_at old head)))
+    pub closed_empty : s.queued - 1 ≤ 0 → Leaves old start s fewer_sizes (set (entries old s.used) head (closed_entry (entry_at old head)))
     closed_empty none = leaves_closed start (emptied old start s a some closed_written none) refl (λ i h. refl)
 
     module _ (last : ℕ) (is_last : last ≡ place_in old s.capacity (s.queued - 1)) (more : 0 < s.queued - 1) where
-      pub closed_sinks : Sinking (rank start) start fewer_sizes 0 last
-      closed_sinks = subst (Sinking (rank start) start fewer_sizes 0) (sym is_last) (closing old start s a some closed_written more)
+      pub closed_sinks : MaySink (rank start) start fewer_sizes 0 last
+      closed_sinks = subst (MaySink (rank start) start fewer_sizes 0) (sym is_last) (closing old start s a some closed_written more)
 
       last_open : slot_of start last < no_slot
       last_open =
           let end = a.slots (s.queued - 1) (omega arith) in
           let apart : last ≢ head = λ q. omega (arith, end.1, (a.slots 0 some).1, ap (slot_of old) (sym is_last ∙ q)) in
-          omega (arith, closed_written.slots last apart, ap (slot_of old) is_last, end.1, a.stored.few, a.stored.in_use, a.stored.in_heap)
+          omega (arith, closed_written.slots last apart, ap (slot_of old) is_last, end.1, a.has_room.few, a.has_room.in_use, a.has_room.in_heap)
 
-      pub closed_leaves : (new : List ℕ) → Sifted last start new fewer_sizes → Leaves old new s fewer_sizes (set (entries old s.used) head (closed (entry_at old head)))
+      pub closed_leaves : (new : List ℕ) → SiftsIn last start new fewer_sizes → Leaves old new s fewer_sizes (set (entries old s.used) head (closed_entry (entry_at old head)))
       closed_leaves new sift =
           leaves_closed new sift.arranged sift.same.long (λ i h. entry_still start new fewer_sizes last i sift last_open h)

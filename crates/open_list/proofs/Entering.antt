@@ -2,13 +2,13 @@
 use Rattle.std.proofs.Common.{◌≡◌, ◌≢◌, ℕ, ◌+◌, ◌-◌, ◌<◌, ◌≤◌, false, nat_lt, List, ap, sym, ◌∙◌, arith, ⊎_elim}
 use Rattle.std.proofs.lemmas.Bool.{cases_eq}
 use Rattle.open_list.specs.declared.heap.Sizes.{Sizes}
-use Rattle.open_list.specs.Entries.{closed}
-use Rattle.open_list.specs.Layout.{depth_of, floor_of, slot_of, place_in, no_slot, above, entry_at, rank}
-use Rattle.open_list.specs.Sifting.{Stored, Arranged, Rising, Sinking}
+use Rattle.open_list.specs.Entries.{closed_entry}
+use Rattle.open_list.specs.inside.Layout.{depth_of, floor_of, slot_of, place_in, no_slot, above, entry_at, rank}
+use Rattle.open_list.specs.inside.Sifting.{HasRoom, IsArranged, MayRise, MaySink}
 use Rattle.open_list.proofs.Sifts.{entry_same, rank_same}
 use Rattle.open_list.proofs.Writes.{Written}
 
-module _ (old start : List ℕ) (s : Sizes) (a : Arranged old s) (place depth floor slot : ℕ) (small : floor < 65536) (w : Written place s.capacity depth floor slot old start) where
+module _ (old start : List ℕ) (s : Sizes) (a : IsArranged old s) (place depth floor slot : ℕ) (small : floor < 65536) (w : Written place s.capacity depth floor slot old start) where
   abbrev at : ℕ → ℕ
   at = place_in old s.capacity
 
@@ -30,15 +30,15 @@ module _ (old start : List ℕ) (s : Sizes) (a : Arranged old s) (place depth fl
   slot_at : (j : ℕ) → j < s.queued → at j ≢ place → slot_of start (after j) ≡ j
   slot_at j h ne = ap (slot_of start) (w.heap j) ∙ w.slots (at j) ne ∙ (a.slots j h).1
 
-  stored_after : (used queued : ℕ) → used ≤ s.capacity → queued ≤ used → ((i : ℕ) → i < used → i ≢ place → i < s.used) → Stored start (record { capacity = s.capacity; used = used; queued = queued })
-  stored_after used queued in_use in_heap rest = record {
-    few = a.stored.few;
-    room = omega (arith, a.stored.room, w.long);
+  has_room_after : (used queued : ℕ) → used ≤ s.capacity → queued ≤ used → ((i : ℕ) → i < used → i ≢ place → i < s.used) → HasRoom start (record { capacity = s.capacity; used = used; queued = queued })
+  has_room_after used queued in_use in_heap rest = record {
+    few = a.has_room.few;
+    room = omega (arith, a.has_room.room, w.long);
     in_use = in_use;
     in_heap = in_heap;
     floors = λ i h. ⊎_elim
         (λ (e : i ≡ place). omega (arith, ap (floor_of start) e, w.floor))
-        (λ (ne : i ≢ place). omega (arith, w.floors i ne, a.stored.floors i (rest i h ne)))
+        (λ (ne : i ≢ place). omega (arith, w.floors i ne, a.has_room.floors i (rest i h ne)))
         (cases_eq i place);
   }
 
@@ -47,10 +47,10 @@ module _ (old start : List ℕ) (s : Sizes) (a : Arranged old s) (place depth fl
     abbrev more : Sizes
     more = record { capacity = s.capacity; used = used; queued = s.queued + 1 }
 
-    pub appended : Rising (rank start) start (record { capacity = s.capacity; used = used; queued = s.queued + 1 }) s.queued place
+    pub appended : MayRise (rank start) start (record { capacity = s.capacity; used = used; queued = s.queued + 1 }) s.queued place
     appended = record {
-      holed = record {
-        stored = stored_after used (s.queued + 1) in_use room rest;
+      has_hole = record {
+        has_room = has_room_after used (s.queued + 1) in_use room rest;
         hole_in = omega arith;
         held_in = inside;
         slots = slots;
@@ -86,10 +86,10 @@ module _ (old start : List ℕ) (s : Sizes) (a : Arranged old s) (place depth fl
     its_slot : (slot_of old place < s.queued) × (at (slot_of old place) ≡ place)
     its_slot = a.places place inside is_open
 
-    pub raised : Rising (rank start) start s (slot_of old place) place
+    pub raised : MayRise (rank start) start s (slot_of old place) place
     raised = record {
-      holed = record {
-        stored = stored_after s.used s.queued a.stored.in_use a.stored.in_heap (λ i h ne. h);
+      has_hole = record {
+        has_room = has_room_after s.used s.queued a.has_room.in_use a.has_room.in_heap (λ i h ne. h);
         hole_in = its_slot.0;
         held_in = inside;
         slots = slots;
@@ -128,7 +128,7 @@ module _ (old start : List ℕ) (s : Sizes) (a : Arranged old s) (place depth fl
         below j some h e = omega (arith, old_below j some h e, lower)
 
 -- the place of slot 0 is closed
-module _ (old start : List ℕ) (s : Sizes) (a : Arranged old s) (some : 0 < s.queued) (w : Written (place_in old s.capacity 0) s.capacity (depth_of old (place_in old s.capacity 0)) (floor_of old (place_in old s.capacity 0)) no_slot old start) where
+module _ (old start : List ℕ) (s : Sizes) (a : IsArranged old s) (some : 0 < s.queued) (w : Written (place_in old s.capacity 0) s.capacity (depth_of old (place_in old s.capacity 0)) (floor_of old (place_in old s.capacity 0)) no_slot old start) where
   abbrev first : ℕ
   first = place_in old s.capacity 0
 
@@ -139,11 +139,11 @@ module _ (old start : List ℕ) (s : Sizes) (a : Arranged old s) (some : 0 < s.q
   first_known = a.slots 0 some
 
   small_floor : floor_of old first < 65536
-  small_floor = a.stored.floors first first_known.0
+  small_floor = a.has_room.floors first first_known.0
 
-  stored_closed : Stored start (record { capacity = s.capacity; used = s.used; queued = s.queued - 1 })
-  stored_closed =
-      stored_after old start s a first _ _ no_slot small_floor w s.used (s.queued - 1) a.stored.in_use (omega (arith, a.stored.in_heap)) (λ i h ne. h)
+  has_room_closed : HasRoom start (record { capacity = s.capacity; used = s.used; queued = s.queued - 1 })
+  has_room_closed =
+      has_room_after old start s a first _ _ no_slot small_floor w s.used (s.queued - 1) a.has_room.in_use (omega (arith, a.has_room.in_heap)) (λ i h ne. h)
 
   -- other slots have other places
   apart_first : (j : ℕ) → 0 < j → j < s.queued → place_in old s.capacity j ≢ first
@@ -163,10 +163,10 @@ module _ (old start : List ℕ) (s : Sizes) (a : Arranged old s) (some : 0 < s.q
       (omega (arith, was.0, known.1), λ q. known.0 (sym there ∙ ap (place_in old s.capacity) q), there)
 
   -- the last slot goes, and its place is held
-  pub closing : 0 < s.queued - 1 → Sinking (rank start) start (record { capacity = s.capacity; used = s.used; queued = s.queued - 1 }) 0 last
+  pub closing : 0 < s.queued - 1 → MaySink (rank start) start (record { capacity = s.capacity; used = s.used; queued = s.queued - 1 }) 0 last
   closing more = record {
-    holed = record {
-      stored = stored_closed;
+    has_hole = record {
+      has_room = has_room_closed;
       hole_in = more;
       held_in = (a.slots (s.queued - 1) (omega arith)).0;
       slots = slots;
@@ -198,15 +198,15 @@ module _ (old start : List ℕ) (s : Sizes) (a : Arranged old s) (some : 0 < s.q
           omega (arith, a.order j under (omega arith), same j under (omega arith), same (above j) (omega arith) (omega arith))
 
   -- without another slot the heap is empty
-  pub emptied : s.queued - 1 ≤ 0 → Arranged start (record { capacity = s.capacity; used = s.used; queued = s.queued - 1 })
+  pub emptied : s.queued - 1 ≤ 0 → IsArranged start (record { capacity = s.capacity; used = s.used; queued = s.queued - 1 })
   emptied none = record {
-    stored = stored_closed;
+    has_room = has_room_closed;
     slots = λ j h. absurd (omega arith);
     places = λ i h is_open. absurd (let known = open_slot i h is_open in omega (arith, known.0, known.1));
     order = λ j under h. absurd (omega arith);
   }
 
-  pub entry_closed : entry_at start first ≡ closed (entry_at old first)
+  pub entry_closed : entry_at start first ≡ closed_entry (entry_at old first)
   entry_closed =
       let shut : nat_lt (slot_of start first) no_slot ≡ false = ap (λ k. nat_lt k no_slot) w.slot in
       cc (w.depth, w.floor, shut)

@@ -3,8 +3,8 @@ use Rattle.std.proofs.Common.{◌≡◌, ℕ, zero, suc, ◌<◌, ◌≤◌, tru
 use Rattle.std.proofs.lemmas.Bool.{cases_lt, lt-ltb, ltb-true, false_from_ne_true}
 use Rattle.open_list.specs.declared.heap.Sizes.{Sizes}
 use Rattle.open_list.specs.Entries.{Entry, Before, Foremost, NoneOpen}
-use Rattle.open_list.specs.Layout.{floor_of, slot_of, place_in, no_slot, above, entry_at, entries, rank}
-use Rattle.open_list.specs.Sifting.{Ordered, Arranged}
+use Rattle.open_list.specs.inside.Layout.{floor_of, slot_of, place_in, no_slot, above, entry_at, entries, rank}
+use Rattle.open_list.specs.inside.Sifting.{IsOrdered, IsArranged}
 use Rattle.open_list.proofs.Lists.{entry_there, entry_of}
 
 -- a place of a lower rank comes before
@@ -17,7 +17,7 @@ ranked_before numbers i j small_i small_j few_i few_j le = record {
 }
 
 -- no slot of a heap comes before slot 0
-least : (key : ℕ → ℕ) (numbers : List ℕ) (s : Sizes) → Ordered key numbers s → (n j : ℕ) → j ≤ n → j < s.queued → key (place_in numbers s.capacity 0) ≤ key (place_in numbers s.capacity j)
+least : (key : ℕ → ℕ) (numbers : List ℕ) (s : Sizes) → IsOrdered key numbers s → (n j : ℕ) → j ≤ n → j < s.queued → key (place_in numbers s.capacity 0) ≤ key (place_in numbers s.capacity j)
 least key numbers s o zero j h inside =
     let e : j ≡ 0 = omega arith in
     omega (arith, ap (λ k. key (place_in numbers s.capacity k)) e)
@@ -30,7 +30,7 @@ least key numbers s o (suc n) j h inside =
     omega (arith, ap (λ k. key (place_in numbers s.capacity k)) e))
     (cases_lt 0 j)
 
-module _ (numbers : List ℕ) (s : Sizes) (a : Arranged numbers s) where
+module _ (numbers : List ℕ) (s : Sizes) (a : IsArranged numbers s) where
   -- an open entry is that of a place in the heap
   in_heap : (j : ℕ) (e : Entry) → slice_get (entries numbers s.used) j ≡ Some e → e.is_open ≡ true → (j < s.used) × (slot_of numbers j < s.queued) × (place_in numbers s.capacity (slot_of numbers j) ≡ j)
   in_heap j e there is_open =
@@ -52,7 +52,7 @@ module _ (numbers : List ℕ) (s : Sizes) (a : Arranged numbers s) where
         let found = in_heap j other there is_open in
         let lower : rank numbers head ≤ rank numbers j = omega (arith, least (rank numbers) numbers s a (slot_of numbers j) (slot_of numbers j) (omega arith) found.1, ap (rank numbers) found.2) in
         subst (λ e. Before (entry_at numbers head) head e j) (sym (entry_of numbers s.used j other there).1)
-        (ranked_before numbers head j (a.stored.floors head top.0) (a.stored.floors j found.0) (omega (arith, top.0, a.stored.in_use, a.stored.few)) (omega (arith, found.0, a.stored.in_use, a.stored.few)) lower);
+        (ranked_before numbers head j (a.has_room.floors head top.0) (a.has_room.floors j found.0) (omega (arith, top.0, a.has_room.in_use, a.has_room.few)) (omega (arith, found.0, a.has_room.in_use, a.has_room.few)) lower);
   })
     where
       head : ℕ

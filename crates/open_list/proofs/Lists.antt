@@ -5,7 +5,7 @@ use Rattle.std.proofs.lemmas.List.{same_lists, length-set, get_or-set_same, get_
 use Rattle.std.proofs.lemmas.List.FromFn.{length-map-range_with_len, get_or-map-range_with_len, map-range_with_len_more}
 use Rattle.std.proofs.lemmas.Option.{slice_get-get_or, slice_get_within, slice_get_past, get_or_from_slice_get}
 use Rattle.open_list.specs.Entries.{Entry}
-use Rattle.open_list.specs.Layout.{entry_at, entries}
+use Rattle.open_list.specs.inside.Layout.{entry_at, entries}
 
 pub length_entries : (numbers : List ℕ) (used : ℕ) → length (entries numbers used) ≡ used
 length_entries numbers used = length-map-range_with_len (entry_at numbers) 0 used

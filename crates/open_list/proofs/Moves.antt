@@ -2,20 +2,20 @@
 use Rattle.std.proofs.Common.{◌≡◌, ◌≢◌, ℕ, ◌<◌, ◌≤◌, List, ap, sym, ◌∙◌, arith, ⊎_elim}
 use Rattle.std.proofs.lemmas.Bool.{cases_eq}
 use Rattle.open_list.specs.declared.heap.Sizes.{Sizes}
-use Rattle.open_list.specs.Layout.{slot_of, place_in, no_slot, above}
-use Rattle.open_list.specs.Sifting.{Stored, Ordered, Holed, Rising, Sinking, Put}
+use Rattle.open_list.specs.inside.Layout.{slot_of, place_in, no_slot, above}
+use Rattle.open_list.specs.inside.Sifting.{HasRoom, IsOrdered, HasHole, MayRise, MaySink, Puts}
 
 -- a put place leaves room and lower bounds
-stored_put : (s : Sizes) (slot place : ℕ) (old new : List ℕ) → Stored old s → Put s.capacity slot place old new → Stored new s
-stored_put s slot place old new stored put = record {
-  few = stored.few;
-  room = omega (arith, stored.room, put.long);
-  in_use = stored.in_use;
-  in_heap = stored.in_heap;
-  floors = λ i h. omega (arith, stored.floors i h, stored.in_use, put.floors i (omega (arith, stored.in_use)));
+has_room_put : (s : Sizes) (slot place : ℕ) (old new : List ℕ) → HasRoom old s → Puts s.capacity slot place old new → HasRoom new s
+has_room_put s slot place old new has_room put = record {
+  few = has_room.few;
+  room = omega (arith, has_room.room, put.long);
+  in_use = has_room.in_use;
+  in_heap = has_room.in_heap;
+  floors = λ i h. omega (arith, has_room.floors i h, has_room.in_use, put.floors i (omega (arith, has_room.in_use)));
 }
 
-module _ (key : ℕ → ℕ) (s : Sizes) (hole held : ℕ) (old new : List ℕ) (before : Holed key old s hole held) where
+module _ (key : ℕ → ℕ) (s : Sizes) (hole held : ℕ) (old new : List ℕ) (before : HasHole key old s hole held) where
   abbrev pub at_old : ℕ → ℕ
   at_old = place_in old s.capacity
 
@@ -24,9 +24,9 @@ module _ (key : ℕ → ℕ) (s : Sizes) (hole held : ℕ) (old new : List ℕ) 
 
   -- a used place is below the capacity
   within : (i : ℕ) → i < s.used → i < s.capacity
-  within i h = omega (arith, before.stored.in_use)
+  within i h = omega (arith, before.has_room.in_use)
 
-  module _ (put : Put s.capacity hole held old new) where
+  module _ (put : Puts s.capacity hole held old new) where
     -- each slot has its place
     slots_filled : (j : ℕ) → j < s.queued → (at_new j < s.used) × (slot_of new (at_new j) ≡ j)
     slots_filled j h = ⊎_elim at_hole elsewhere (cases_eq j hole)
@@ -81,16 +81,16 @@ module _ (key : ℕ → ℕ) (s : Sizes) (hole held : ℕ) (old new : List ℕ) 
             (cases_eq (above j) hole)
 
     -- where the held place may stand over and under what is there, the heap is whole
-    pub filled : (0 < hole → key (at_old (above hole)) ≤ key held) → ((j : ℕ) → 0 < j → j < s.queued → above j ≡ hole → key held ≤ key (at_old j)) → Ordered key new s
+    pub filled : (0 < hole → key (at_old (above hole)) ≤ key held) → ((j : ℕ) → 0 < j → j < s.queued → above j ≡ hole → key held ≤ key (at_old j)) → IsOrdered key new s
     filled over below = record {
-      stored = stored_put s hole held old new before.stored put;
+      has_room = has_room_put s hole held old new before.has_room put;
       slots = slots_filled;
       places = places_filled;
       order = order_filled over below;
     }
 
   -- the place of another slot is put into the hole, and that slot is the hole then
-  module _ (from : ℕ) (from_in : from < s.queued) (apart : from ≢ hole) (put : Put s.capacity hole (at_old from) old new) where
+  module _ (from : ℕ) (from_in : from < s.queued) (apart : from ≢ hole) (put : Puts s.capacity hole (at_old from) old new) where
     abbrev moved : ℕ
     moved = at_old from
 
@@ -127,9 +127,9 @@ module _ (key : ℕ → ℕ) (s : Sizes) (hole held : ℕ) (old new : List ℕ) 
             (omega (arith, was.0), λ q. far (sym was.2 ∙ ap at_old (sym here ∙ q)), ap at_new here ∙ put.slots (slot_of old i) was.1 ∙ was.2)
 
     -- the rest of the order is that of the direction
-    holed_moved : ((j : ℕ) → 0 < j → j < s.queued → j ≢ from → above j ≢ from → key (at_new (above j)) ≤ key (at_new j)) → ((j : ℕ) → 0 < j → j < s.queued → above j ≡ from → 0 < from → key (at_new (above from)) ≤ key (at_new j)) → Holed key new s from held
-    holed_moved order around = record {
-      stored = stored_put s hole moved old new before.stored put;
+    has_hole_moved : ((j : ℕ) → 0 < j → j < s.queued → j ≢ from → above j ≢ from → key (at_new (above j)) ≤ key (at_new j)) → ((j : ℕ) → 0 < j → j < s.queued → above j ≡ from → 0 < from → key (at_new (above from)) ≤ key (at_new j)) → HasHole key new s from held
+    has_hole_moved order around = record {
+      has_room = has_room_put s hole moved old new before.has_room put;
       hole_in = from_in;
       held_in = before.held_in;
       slots = slots_moved;
@@ -146,9 +146,9 @@ module _ (key : ℕ → ℕ) (s : Sizes) (hole held : ℕ) (old new : List ℕ) 
   key_new j = key (place_in new s.capacity j)
 
   -- the place above the hole comes after the held one, and moves into it
-  module _ (before : Rising key old s hole held) (under : 0 < hole) (later : key held ≤ key_old (above hole)) (put : Put s.capacity hole (place_in old s.capacity (above hole)) old new) where
+  module _ (before : MayRise key old s hole held) (under : 0 < hole) (later : key held ≤ key_old (above hole)) (put : Puts s.capacity hole (place_in old s.capacity (above hole)) old new) where
     from_in : above hole < s.queued
-    from_in = omega (arith, before.holed.hole_in)
+    from_in = omega (arith, before.has_hole.hole_in)
 
     apart : above hole ≢ hole
     apart = λ q. omega arith
@@ -160,22 +160,22 @@ module _ (key : ℕ → ℕ) (s : Sizes) (hole held : ℕ) (old new : List ℕ) 
     under_moved : (j : ℕ) → 0 < j → j < s.queued → above j ≡ above hole → j ≢ hole → key_old (above hole) ≤ key_old j
     under_moved j some h e ne =
         let off : above j ≢ hole = λ q. apart (sym e ∙ q) in
-        omega (arith, before.holed.order j some h ne off, ap key_old e)
+        omega (arith, before.has_hole.order j some h ne off, ap key_old e)
 
     order_risen : (j : ℕ) → 0 < j → j < s.queued → j ≢ above hole → above j ≢ above hole → key_new (above j) ≤ key_new j
     order_risen j some h ne off =
         let far : j ≢ hole = λ q. off (ap above q) in
         ⊎_elim
         (λ (e : above j ≡ hole).
-        omega (arith, before.holed.around j some h e under, ap key_new e, here, ap key (put.slots j far)))
+        omega (arith, before.has_hole.around j some h e under, ap key_new e, here, ap key (put.slots j far)))
         (λ (beside : above j ≢ hole).
-        omega (arith, before.holed.order j some h far beside, ap key (put.slots (above j) beside), ap key (put.slots j far)))
+        omega (arith, before.has_hole.order j some h far beside, ap key (put.slots (above j) beside), ap key (put.slots j far)))
         (cases_eq (above j) hole)
 
     around_risen : (j : ℕ) → 0 < j → j < s.queued → above j ≡ above hole → 0 < above hole → key_new (above (above hole)) ≤ key_new j
     around_risen j some h e more =
         let far : above (above hole) ≢ hole = λ q. omega arith in
-        let upper = before.holed.order (above hole) more from_in apart far in
+        let upper = before.has_hole.order (above hole) more from_in apart far in
         ⊎_elim
         (λ (q : j ≡ hole). omega (arith, upper, ap key (put.slots (above (above hole)) far), ap key_new q, here))
         (λ (ne : j ≢ hole).
@@ -189,14 +189,14 @@ module _ (key : ℕ → ℕ) (s : Sizes) (hole held : ℕ) (old new : List ℕ) 
         (λ (ne : j ≢ hole). omega (arith, later, under_moved j some h e ne, ap key (put.slots j ne)))
         (cases_eq j hole)
 
-    pub risen : Rising key new s (above hole) held
+    pub risen : MayRise key new s (above hole) held
     risen = record {
-      holed = holed_moved key s hole held old new before.holed (above hole) from_in apart put order_risen around_risen;
+      has_hole = has_hole_moved key s hole held old new before.has_hole (above hole) from_in apart put order_risen around_risen;
       below = below_risen;
     }
 
   -- of the places below the hole the one that comes first comes before the held one, and moves into it
-  module _ (before : Sinking key old s hole held) (from : ℕ) (some : 0 < from) (from_in : from < s.queued) (under : above from ≡ hole) (earlier : key_old from ≤ key held) (first : (j : ℕ) → 0 < j → j < s.queued → above j ≡ hole → key_old from ≤ key_old j) (put : Put s.capacity hole (place_in old s.capacity from) old new) where
+  module _ (before : MaySink key old s hole held) (from : ℕ) (some : 0 < from) (from_in : from < s.queued) (under : above from ≡ hole) (earlier : key_old from ≤ key held) (first : (j : ℕ) → 0 < j → j < s.queued → above j ≡ hole → key_old from ≤ key_old j) (put : Puts s.capacity hole (place_in old s.capacity from) old new) where
     apart_down : from ≢ hole
     apart_down = λ q. omega arith
 
@@ -209,24 +209,24 @@ module _ (key : ℕ → ℕ) (s : Sizes) (hole held : ℕ) (old new : List ℕ) 
         at_hole : j ≡ hole → key_new (above j) ≤ key_new j
         at_hole e =
             let beside : above j ≢ hole = λ q. omega arith in
-            omega (arith, before.holed.around from some from_in under (omega arith), ap key_new e, here_down, ap key (put.slots (above j) beside), ap (λ k. key_old (above k)) e)
+            omega (arith, before.has_hole.around from some from_in under (omega arith), ap key_new e, here_down, ap key (put.slots (above j) beside), ap (λ k. key_old (above k)) e)
 
         elsewhere : j ≢ hole → key_new (above j) ≤ key_new j
         elsewhere far =
             ⊎_elim
             (λ (e : above j ≡ hole). omega (arith, first j some_j h e, ap key_new e, here_down, ap key (put.slots j far)))
             (λ (beside : above j ≢ hole).
-            omega (arith, before.holed.order j some_j h far beside, ap key (put.slots (above j) beside), ap key (put.slots j far)))
+            omega (arith, before.has_hole.order j some_j h far beside, ap key (put.slots (above j) beside), ap key (put.slots j far)))
             (cases_eq (above j) hole)
 
     around_sunk : (j : ℕ) → 0 < j → j < s.queued → above j ≡ from → 0 < from → key_new (above from) ≤ key_new j
     around_sunk j some_j h e more =
         let far : j ≢ hole = λ q. omega arith in
         let beside : above j ≢ hole = λ q. apart_down (sym e ∙ q) in
-        omega (arith, before.holed.order j some_j h far beside, ap key_old e, ap key_new under, here_down, ap key (put.slots j far))
+        omega (arith, before.has_hole.order j some_j h far beside, ap key_old e, ap key_new under, here_down, ap key (put.slots j far))
 
-    pub sunk : Sinking key new s from held
+    pub sunk : MaySink key new s from held
     sunk = record {
-      holed = holed_moved key s hole held old new before.holed from from_in apart_down put order_sunk around_sunk;
+      has_hole = has_hole_moved key s hole held old new before.has_hole from from_in apart_down put order_sunk around_sunk;
       over = λ more. omega (arith, earlier, ap key_new under, here_down);
     }

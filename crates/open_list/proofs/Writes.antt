@@ -1,8 +1,8 @@
 -- What a write of one number changes. Assumes nothing.
 use Rattle.std.proofs.Common.{◌≡◌, ◌≢◌, ℕ, ◌+◌, ◌*◌, ◌<◌, ◌≤◌, List, length, set, get_or, sym, subst, ◌∙◌, arith}
 use Rattle.std.proofs.lemmas.List.{length-set, get_or-set_same, get_or-set_other}
-use Rattle.open_list.specs.Layout.{depth_of, floor_of, slot_of, place_in}
-use Rattle.open_list.specs.Sifting.{Put}
+use Rattle.open_list.specs.inside.Layout.{depth_of, floor_of, slot_of, place_in}
+use Rattle.open_list.specs.inside.Sifting.{Puts}
 
 -- the numbers of a place were written, and no others
 pub record Written (place capacity to_depth to_floor to_slot : ℕ) (old new : List ℕ) : Type 0 where
@@ -24,7 +24,7 @@ module _ (capacity slot place : ℕ) (old : List ℕ) (room : 4 * capacity ≤ l
   abbrev in_slot : List ℕ
   in_slot = set old (3 * capacity + slot) place
 
-  pub put_done : Put capacity slot place old (set (set old (3 * capacity + slot) place) (3 * place + 2) slot)
+  pub put_done : Puts capacity slot place old (set (set old (3 * capacity + slot) place) (3 * place + 2) slot)
   unfolding depth_of floor_of slot_of place_in
   put_done = record {
     long = length-set in_slot (3 * place + 2) slot ∙ length-set old (3 * capacity + slot) place;

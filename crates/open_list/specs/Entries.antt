@@ -10,12 +10,12 @@ pub record Entry : Type 0 where
 abbrev pub entry : ℕ → ℕ → Bool → Entry
 entry depth floor is_open = record { depth = depth; floor = floor; is_open = is_open }
 
-abbrev pub closed : Entry → Entry
-closed e = entry e.depth e.floor false
+abbrev pub closed_entry : Entry → Entry
+closed_entry e = entry e.depth e.floor false
 
 -- an entry that was reached with so many moves, and is open
-abbrev pub reached : Entry → ℕ → Entry
-reached e depth = entry depth e.floor true
+abbrev pub nearer_entry : Entry → ℕ → Entry
+nearer_entry e depth = entry depth e.floor true
 
 abbrev pub sum : Entry → ℕ
 sum e = e.depth + e.floor

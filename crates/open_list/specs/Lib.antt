@@ -1,6 +1,4 @@
 pub mod Entries
 pub mod OpenList
-pub mod Layout
-pub mod Sifting
-pub mod Changing
-pub mod Heap
+pub mod inside
+pub mod View

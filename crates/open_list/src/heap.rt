@@ -1,7 +1,7 @@
 ghost use Rattle.std.specs.Prelude.{◌≡◌, ◌+◌, ◌*◌, ◌<◌, length};
-ghost use Rattle.open_list.specs.Layout.{depth_of, place_in};
-ghost use Rattle.open_list.specs.Sifting.{Arranged};
-ghost use Rattle.open_list.specs.Changing.{Added, Lowered, FirstClosed};
+ghost use Rattle.open_list.specs.inside.Layout.{depth_of, place_in};
+ghost use Rattle.open_list.specs.inside.Sifting.{IsArranged};
+ghost use Rattle.open_list.specs.inside.Changing.{Adds, Lowers, ClosesFirst};
 
 mod changing;
 mod layout;
@@ -32,7 +32,7 @@ impl<'a> Heap<'a> {
 
     /// The place that comes first.
     pub(crate) fn first(&self, sizes: Sizes) -> usize
-        requires arranged { Arranged self.now.numbers.now sizes }
+        requires arranged { IsArranged self.now.numbers.now sizes }
         requires some { 0 < sizes.queued }
         ensures { result ≡ place_in self.now.numbers.now sizes.capacity 0 }
     {
@@ -41,28 +41,28 @@ impl<'a> Heap<'a> {
 
     /// Adds an open place behind those in use.
     pub(crate) fn add(&mut self, sizes: Sizes, depth: u32, floor: u16) -> Sizes
-        requires arranged { Arranged self.old.numbers.now sizes }
+        requires arranged { IsArranged self.old.numbers.now sizes }
         requires room { sizes.used < sizes.capacity }
-        ensures { Added depth floor self.old.numbers.now self.new.numbers.now sizes result }
+        ensures { Adds depth floor self.old.numbers.now self.new.numbers.now sizes result }
     {
         changing::add(self.numbers, sizes, depth, floor)
     }
 
     /// Opens a place with fewer moves.
     pub(crate) fn lower(&mut self, sizes: Sizes, place: usize, depth: u32) -> Sizes
-        requires arranged { Arranged self.old.numbers.now sizes }
+        requires arranged { IsArranged self.old.numbers.now sizes }
         requires in_use { place < sizes.used }
         requires fewer { depth < depth_of self.old.numbers.now place }
-        ensures { Lowered place depth self.old.numbers.now self.new.numbers.now sizes result }
+        ensures { Lowers place depth self.old.numbers.now self.new.numbers.now sizes result }
     {
         changing::lower(self.numbers, sizes, place, depth)
     }
 
     /// Closes the place that comes first.
     pub(crate) fn close_first(&mut self, sizes: Sizes) -> Sizes
-        requires arranged { Arranged self.old.numbers.now sizes }
+        requires arranged { IsArranged self.old.numbers.now sizes }
         requires some { 0 < sizes.queued }
-        ensures { FirstClosed self.old.numbers.now self.new.numbers.now sizes result }
+        ensures { ClosesFirst self.old.numbers.now self.new.numbers.now sizes result }
     {
         changing::close_first(self.numbers, sizes)
     }

@@ -11,13 +11,13 @@ pub struct OpenList<'a> {
 }
 
 impl<'a> Model for OpenList<'a> {
-    ghost use Rattle.open_list.specs.OpenList.{Open};
+    ghost use Rattle.open_list.specs.OpenList.{Queue};
 
-    ghost Value = { Open };
+    ghost Value = { Queue };
 
-    ghost use Rattle.open_list.specs.Heap.{shown, IsHeap};
+    ghost use Rattle.open_list.specs.View.{queue_of, IsHeap};
 
-    ghost view = { shown };
+    ghost view = { queue_of };
 
     ghost invariant = { IsHeap };
 }

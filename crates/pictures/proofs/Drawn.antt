@@ -6,7 +6,7 @@ use Rattle.std.proofs.lemmas.Bool.Decides.{nat_tests}
 use Rattle.pictures.specs.declared.cell.Cell.{Cell}
 use Rattle.pictures.specs.declared.cell.Cell.TheVariants.{Wall, Free, Atom}
 use Rattle.pictures.specs.declared.cell.UnknownSymbol.{UnknownSymbol}
-use Rattle.pictures.specs.Cells.{symbol_of, cell_of, cells_of, lettered, Lettered, Draws, DrawsOne, DrawnBack}
+use Rattle.pictures.specs.Cells.{symbol_of, cell_of, cells_of, lettered, Lettered, Draws, DrawsOne, SymbolDrawsBack}
 
 -- a character draws a lettered cell, and is the one that draws it
 pub draws_one : (c : ℕ) → DrawsOne c
@@ -24,7 +24,7 @@ atom_drawn : (c : ℕ) → lettered (Atom c) ≡ true → cell_of c ≡ Some (At
 atom_drawn c l = grind (arith, nat_tests)
 
 -- the character of a lettered cell draws that cell
-pub drawn_back : (x : Cell) → DrawnBack x
+pub drawn_back : (x : Cell) → SymbolDrawsBack x
 drawn_back Wall l = refl
 drawn_back Free l = refl
 drawn_back (Atom label) l = atom_drawn label l

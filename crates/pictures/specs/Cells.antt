@@ -50,5 +50,5 @@ abbrev pub DrawsOne : ℕ → Type 0
 DrawsOne c = (x : Cell) → cell_of c ≡ Some x → (lettered x ≡ true) × (symbol_of x ≡ c)
 
 -- the character of a cell draws that cell
-abbrev pub DrawnBack : Cell → Type 0
-DrawnBack x = lettered x ≡ true → cell_of (symbol_of x) ≡ Some x
+abbrev pub SymbolDrawsBack : Cell → Type 0
+SymbolDrawsBack x = lettered x ≡ true → cell_of (symbol_of x) ≡ Some x

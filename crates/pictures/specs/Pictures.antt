@@ -18,13 +18,9 @@ shape_of w h xs = record { width = w; height = h; cells = xs }
 abbrev pub shape : Picture → Shape
 shape p = shape_of p.grid.width p.grid.height (take (p.grid.width * p.grid.height) p.cells)
 
-abbrev pub told : Option Picture → Option Shape
-told (Some p) = Some (shape p)
-told None = None
-
 -- a picture with no row yet
-abbrev pub blank : ℕ → Option Shape
-blank w = cond (nat_le 1 w && nat_le w 16) (Some (shape_of w 0 [])) None
+abbrev pub blank_shape : ℕ → Option Shape
+blank_shape w = cond (nat_le 1 w && nat_le w 16) (Some (shape_of w 0 [])) None
 
 -- the same with one row more, where the row is as wide and each character of it draws a cell
 abbrev pub with_row : Shape → List ℕ → Option Shape

@@ -1,5 +1,5 @@
 ghost use Rattle.std.specs.Prelude.{◌≡◌};
-ghost use Rattle.pictures.specs.Cells.{label_in, symbol_of, Draws, DrawsOne, DrawnBack};
+ghost use Rattle.pictures.specs.Cells.{label_in, symbol_of, Draws, DrawsOne, SymbolDrawsBack};
 
 /// What is drawn on a cell.
 #[derive(Clone, Copy, Debug, PartialEq, Eq)]
@@ -52,7 +52,7 @@ impl From<Cell> for u8 {
 
     fn from(cell: Cell) -> u8
         ensures drawn { result ≡ symbol_of cell }
-        ensures back { DrawnBack cell }
+        ensures back { SymbolDrawsBack cell }
     {
         match cell {
             Cell::Wall => b'#',

@@ -6,8 +6,8 @@ abbrev pub spread : ℕ
 spread = 11400714819323198485
 
 -- one number more
-abbrev pub mixed : ℕ → ℕ → ℕ
-mixed sum number = (sum + number) % 2 ^ 64 * spread % 2 ^ 64
+abbrev pub sum_with : ℕ → ℕ → ℕ
+sum_with sum number = (sum + number) % 2 ^ 64 * spread % 2 ^ 64
 
 -- the key that a sum makes: its high half, where each number that was mixed in has moved every bit
 abbrev pub key_of : ℕ → ℕ

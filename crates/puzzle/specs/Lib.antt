@@ -1,4 +1,4 @@
 pub mod Game
 pub mod Meaning
-pub mod Gentle
+pub mod Consistent
 pub mod Keys

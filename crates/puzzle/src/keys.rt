@@ -1,13 +1,13 @@
 //! Keys of positions: numbers mixed so that positions which differ little get keys that differ much.
 ghost use Rattle.std.specs.Prelude.{◌≡◌};
-ghost use Rattle.puzzle.specs.Keys.{mixed, key_of};
+ghost use Rattle.puzzle.specs.Keys.{sum_with, key_of};
 
 /// 2 ^ 64 over the golden ratio, an odd number whose multiples spread well.
 const SPREAD: u64 = 0x9E37_79B9_7F4A_7C15;
 
 /// The sum after one number more, of those that make up a position.
 pub fn mix(sum: u64, number: u64) -> u64
-    ensures { result ≡ mixed sum number }
+    ensures { result ≡ sum_with sum number }
 {
     sum.wrapping_add(number).wrapping_mul(SPREAD)
 }

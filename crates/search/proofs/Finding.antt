@@ -7,9 +7,9 @@ use Rattle.puzzle.specs.Meaning.{Meaning, Lawful}
 use Rattle.open_list.specs.Entries.{Entry}
 use Rattle.hash_index.specs.Index.{IsLast, IsEarlier}
 use Rattle.search_theory.specs.Nodes.{Node, IsNew}
-use Rattle.search_theory.specs.Known.{Known}
+use Rattle.search_theory.specs.inside.Invariants.{NodeInvariant}
 use Rattle.search.specs.Contents.{nodes_from}
-use Rattle.search.specs.Parts.{SameAt}
+use Rattle.search.specs.inside.Parts.{SameAt}
 use Rattle.search.proofs.Nodes.{node_parts}
 
 -- one more than the place, or none
@@ -42,7 +42,7 @@ module _ {P : Type 0} (m : Meaning P) (ps : List P) (es : List Entry) (ks ls : L
   Left (Some place) = (j : ℕ) (node : Node P) → slice_get (nodes_from ps es ks ls) j ≡ Some node → node.position ≡ p → j ≤ place
   Left None = IsNew (nodes_from ps es ks ls) p
 
-  module _ (known : Known m (nodes_from ps es ks ls)) (key : ℕ) (key_is : key ≡ m.key p) where
+  module _ (known : NodeInvariant m (nodes_from ps es ks ls)) (key : ℕ) (key_is : key ≡ m.key p) where
     -- a node that holds it has the key
     its_key : (j : ℕ) (node : Node P) → slice_get (nodes_from ps es ks ls) j ≡ Some node → node.position ≡ p → slice_get ks j ≡ Some key
     its_key j node at holds =
@@ -73,7 +73,7 @@ module _ {P : Type 0} (m : Meaning P) (ps : List P) (es : List Entry) (ks ls : L
         left_from place o last (λ j node at holds. (let no_later = left j node at holds in let apart : j ≢ place = λ same. other node (subst (λ k. slice_get (nodes_from ps es ks ls) k ≡ Some node) same at) holds in omega arith))
 
   -- whether the table's position at a place is the one, by the puzzle's comparison
-  module _ (lawful : Lawful m) (known : Known m (nodes_from ps es ks ls)) (reached : Reached m.game p) (place : ℕ) (is : Bool) (same : SameAt m ps place p is) where
+  module _ (lawful : Lawful m) (known : NodeInvariant m (nodes_from ps es ks ls)) (reached : Reached m.game p) (place : ℕ) (is : Bool) (same : SameAt m ps place p is) where
     tells : (node : Node P) → slice_get (nodes_from ps es ks ls) place ≡ Some node → is ≡ m.same node.position p
     tells node at =
         let h = node_parts ps es ks ls place node at in

@@ -1,11 +1,12 @@
 -- What the parts of a step leave as it was. Assumes nothing.
 use Rattle.std.proofs.Common.{refl, ◌∙◌, arith}
-use Rattle.search.specs.Contents.{Contents, Framed}
+use Rattle.search.specs.Contents.{Contents}
+use Rattle.search.specs.inside.Memory.{ChangesNodesOnly}
 
-pub framed_same : {P : Type 0} (a : Contents P) → Framed a a
+pub framed_same : {P : Type 0} (a : Contents P) → ChangesNodesOnly a a
 framed_same {P} a = record { table = refl; numbers = refl; capacity = refl; longer = omega arith; opened = refl; verdict = refl; steps = refl }
 
-pub framed_then : {P : Type 0} (a b c : Contents P) → Framed a b → Framed b c → Framed a c
+pub framed_then : {P : Type 0} (a b c : Contents P) → ChangesNodesOnly a b → ChangesNodesOnly b c → ChangesNodesOnly a c
 framed_then {P} a b c f g = record {
   table = g.table ∙ f.table;
   numbers = g.numbers ∙ f.numbers;

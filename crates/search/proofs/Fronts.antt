@@ -6,9 +6,9 @@ use Rattle.std.specs.Option.{is_some, unwrap_or}
 use Rattle.puzzle.specs.Meaning.{Meaning}
 use Rattle.open_list.specs.Entries as entries
 use Rattle.open_list.specs.Entries.{Entry, Foremost, IsFirst}
-use Rattle.open_list.specs.OpenList.{Open, Closed}
-use Rattle.search_theory.specs.Nodes.{Node, closed, Before, Taken, NoneOpen}
-use Rattle.search_theory.specs.Known.{Found}
+use Rattle.open_list.specs.OpenList.{Queue, Closes}
+use Rattle.search_theory.specs.Nodes.{Node, closed_node, Before, IsTaken, NoneOpen}
+use Rattle.search_theory.specs.inside.Invariants.{LinkedWay}
 use Rattle.search_theory.specs.Steps.{GoesOn, some_open, none_open}
 use Rattle.search_theory.specs.declared.Verdict.{Verdict}
 use Rattle.search_theory.specs.declared.Verdict.TheVariants.{Running, Unsolvable}
@@ -32,8 +32,8 @@ one_front es i j a b =
     omega arith
 
 -- the place that is closed is the one that came first
-pub closed_front : (old new : Open) (place : ℕ) (o : Option ℕ) → Foremost old.entries place → IsFirst old.entries o → Closed old o new → Closed old (Some place) new
-closed_front old new place (Some i) front first shut = subst (λ k. Closed old (Some k) new) (one_front old.entries i place first front) shut
+pub closed_front : (old new : Queue) (place : ℕ) (o : Option ℕ) → Foremost old.entries place → IsFirst old.entries o → Closes old o new → Closes old (Some place) new
+closed_front old new place (Some i) front first shut = subst (λ k. Closes old (Some k) new) (one_front old.entries i place first front) shut
 closed_front old new place None front first shut = absurd (true≢false (sym front.is_open ∙ first place front.here front.there))
 
 module _ {P : Type 0} (ps : List P) (es : List Entry) (ks ls : List ℕ) where
@@ -47,10 +47,10 @@ module _ {P : Type 0} (ps : List P) (es : List Entry) (ks ls : List ℕ) where
     pub node : Node P
     pub at : slice_get (nodes_from ps es ks ls) place ≡ Some node
     pub is_open : node.is_open ≡ true
-    pub taken : Taken (nodes_from ps es ks ls) place node
+    pub taken : IsTaken (nodes_from ps es ks ls) place node
     pub depth_is : node.depth ≡ depth
     pub position_is : node.position ≡ p
-    pub closing : (e : Entry) → slice_get es place ≡ Some e → nodes_from ps (set es place (entries.closed e)) ks ls ≡ set (nodes_from ps es ks ls) place (closed node)
+    pub closing : (e : Entry) → slice_get es place ≡ Some e → nodes_from ps (set es place (entries.closed_entry e)) ks ls ≡ set (nodes_from ps es ks ls) place (closed_node node)
 
   module _ (keyed : length ks ≡ length es) (deep : length es ≤ length ps) (linked : length es ≤ length ls) (place : ℕ) (first : Foremost es place) where
     before_as : (node other : Node P) (e f : Entry) (j : ℕ) → node.depth ≡ e.depth → node.floor ≡ e.floor → other.depth ≡ f.depth → other.floor ≡ f.floor → entries.Before e place f j → Before node place other j
@@ -60,7 +60,7 @@ module _ {P : Type 0} (ps : List P) (es : List Entry) (ks ls : List ℕ) where
       earlier = λ same level. before.earlier (omega arith) (omega arith);
     }
 
-    taken_first : (node : Node P) → slice_get (nodes_from ps es ks ls) place ≡ Some node → Taken (nodes_from ps es ks ls) place node
+    taken_first : (node : Node P) → slice_get (nodes_from ps es ks ls) place ≡ Some node → IsTaken (nodes_from ps es ks ls) place node
     taken_first node at =
         let mine = its_entry ps es ks ls keyed deep linked place node first.here at first.there in
         record {
@@ -72,12 +72,12 @@ module _ {P : Type 0} (ps : List P) (es : List Entry) (ks ls : List ℕ) where
               before_as node other first.here h.entry j mine.0 mine.1 its.0 its.1 (first.first j h.entry h.entry_is (sym its.2 ∙ other_open));
         }
 
-    closing_as : (node : Node P) → slice_get (nodes_from ps es ks ls) place ≡ Some node → (e : Entry) → slice_get es place ≡ Some e → nodes_from ps (set es place (entries.closed e)) ks ls ≡ set (nodes_from ps es ks ls) place (closed node)
+    closing_as : (node : Node P) → slice_get (nodes_from ps es ks ls) place ≡ Some node → (e : Entry) → slice_get es place ≡ Some e → nodes_from ps (set es place (entries.closed_entry e)) ks ls ≡ set (nodes_from ps es ks ls) place (closed_node node)
     closing_as node at e is =
         let h = node_parts ps es ks ls place node at in
         let same : h.entry ≡ e = same_Some h.entry e (sym h.entry_is ∙ is) in
-        nodes_entry ps es ks ls place h.position h.key (entries.closed e) h.link h.position_is h.key_is h.link_is
-        ∙ ap (set (nodes_from ps es ks ls) place) (ap (λ x. node_of h.position (entries.closed x) h.key h.link) (sym same) ∙ ap closed (sym h.node_is))
+        nodes_entry ps es ks ls place h.position h.key (entries.closed_entry e) h.link h.position_is h.key_is h.link_is
+        ∙ ap (set (nodes_from ps es ks ls) place) (ap (λ x. node_of h.position (entries.closed_entry x) h.key h.link) (sym same) ∙ ap closed_node (sym h.node_is))
 
     pub front : (p : P) → slice_get ps place ≡ Some p → Front place first.here.depth p
     front p stands =
@@ -110,9 +110,9 @@ module _ {P : Type 0} (m : Meaning P) (capacity : ℕ) (ps : List P) (es : List 
 
   -- what is told of every node that is taken is told of the place that comes first
   pub found_first : (n place : ℕ) (o : Option ℕ) → IsFirst es o → place ≡ unwrap_or o 0 → (NoneOpen (nodes_from ps es ks ls) → ⊥)
-      → ((i : ℕ) (node : Node P) → Taken (nodes_from ps es ks ls) i node → Found m (nodes_from ps es ks ls) n i) → Found m (nodes_from ps es ks ls) n place
+      → ((i : ℕ) (node : Node P) → IsTaken (nodes_from ps es ks ls) i node → LinkedWay m (nodes_from ps es ks ls) n i) → LinkedWay m (nodes_from ps es ks ls) n place
   found_first n place (Some i) first is some found =
       let p = some_there ps i (let inside = slice_get_within es i first.here first.there in omega arith) in
       let f = front ps es ks ls keyed deep linked i first p.0 p.1 in
-      subst (λ k. Found m (nodes_from ps es ks ls) n k) (sym is) (found i f.node f.taken)
+      subst (λ k. LinkedWay m (nodes_from ps es ks ls) n k) (sym is) (found i f.node f.taken)
   found_first n place None first is some found = absurd (some (none_open_as ps es ks ls first))

@@ -7,11 +7,12 @@ use Rattle.open_list.specs.Entries.{entry}
 use Rattle.open_list.specs.OpenList as open_list
 use Rattle.hash_index.specs.Index as index
 use Rattle.search_theory.specs.declared.Verdict.TheVariants.{Running, Unsolvable}
-use Rattle.search_theory.specs.Steps.{State, state, new_node, begun}
+use Rattle.search_theory.specs.Steps.{State, state, new_node, first_state}
 use Rattle.search_theory.specs.Calls.{Search, with_state, open_refusal}
-use Rattle.search_theory.proofs.Known.{begun_cases}
-use Rattle.search.specs.Contents.{Contents, node_of, link_of, nodes_of, numbers_of, search_of}
-use Rattle.search.specs.Parts.{Stored}
+use Rattle.search_theory.proofs.Invariants.{first_state_cases}
+use Rattle.search.specs.Contents.{Contents, node_of, nodes_of, numbers_of, search_of}
+use Rattle.search.specs.inside.Memory.{link_of}
+use Rattle.search.specs.inside.Parts.{Stores}
 
 module _ {P : Type 0} where
   -- a search that is opened, as its calls see it
@@ -35,22 +36,22 @@ module _ {P : Type 0} where
 
   module _ (m : Meaning P) (capacity : ℕ) where
     -- a dead start
-    pub dead_begun : m.lower_bound m.game.start ≡ None → begun m capacity ≡ state [] Unsolvable 0
-    dead_begun is = begun_cases m capacity (λ t. t ≡ state [] Unsolvable 0) (λ floor alive. absurd (none-some floor (sym is ∙ alive))) (λ dead. refl)
+    pub dead_first_state : m.lower_bound m.game.start ≡ None → first_state m capacity ≡ state [] Unsolvable 0
+    dead_first_state is = first_state_cases m capacity (λ t. t ≡ state [] Unsolvable 0) (λ floor alive. absurd (none-some floor (sym is ∙ alive))) (λ dead. refl)
 
-    pub alive_begun : (old new : Contents P) (room : Bool) (p : P) (key floor : ℕ) → nodes_of old ≡ [] → 0 < old.open_list.capacity → old.steps ≡ 0 → old.verdict ≡ Running
-        → room ≡ nat_lt (length (nodes_of old)) old.open_list.capacity → Stored (node_of p (entry 0 floor true) key (link_of 0 0)) old room new → p ≡ m.game.start → key ≡ m.key p
-        → m.lower_bound m.game.start ≡ Some floor → state (nodes_of new) new.verdict new.steps ≡ begun m capacity
-    alive_begun old new true p key floor empty some zero runs room after start keyed alive =
+    pub alive_first_state : (old new : Contents P) (room : Bool) (p : P) (key floor : ℕ) → nodes_of old ≡ [] → 0 < old.open_list.capacity → old.steps ≡ 0 → old.verdict ≡ Running
+        → room ≡ nat_lt (length (nodes_of old)) old.open_list.capacity → Stores (node_of p (entry 0 floor true) key (link_of 0 0)) old room new → p ≡ m.game.start → key ≡ m.key p
+        → m.lower_bound m.game.start ≡ Some floor → state (nodes_of new) new.verdict new.steps ≡ first_state m capacity
+    alive_first_state old new true p key floor empty some zero runs room after start keyed alive =
         let node : node_of p (entry 0 floor true) key (link_of 0 0) ≡ new_node m capacity m.game.start 0 0 0 floor = cc in
         let nodes : nodes_of new ≡ new_node m capacity m.game.start 0 0 0 floor ∷ [] = after.0 ∙ ap (λ ns. ns ++ (node_of p (entry 0 floor true) key (link_of 0 0) ∷ [])) empty ∙ ap (λ n. n ∷ []) node in
         ap (λ ns. state ns new.verdict new.steps) nodes
         ∙ ap (λ v. state (new_node m capacity m.game.start 0 0 0 floor ∷ []) v new.steps) (after.1.verdict ∙ runs)
         ∙ ap (λ k. state (new_node m capacity m.game.start 0 0 0 floor ∷ []) Running k) (after.1.steps ∙ zero)
-        ∙ begun_cases m capacity (λ t. state (new_node m capacity m.game.start 0 0 0 floor ∷ []) Running 0 ≡ t)
+        ∙ first_state_cases m capacity (λ t. state (new_node m capacity m.game.start 0 0 0 floor ∷ []) Running 0 ≡ t)
         (λ other is. ap (λ f. state (new_node m capacity m.game.start 0 0 0 f ∷ []) Running 0) (same_Some floor other (sym alive ∙ is)))
         (λ dead. absurd (none-some floor (sym dead ∙ alive)))
-    alive_begun old new false p key floor empty some zero runs room after start keyed alive =
+    alive_first_state old new false p key floor empty some zero runs room after start keyed alive =
         absurd (true≢false (sym (lt-ltb (length (nodes_of old)) old.open_list.capacity (rw empty some)) ∙ sym room))
 
 -- the parts of the list are as long as they have to be

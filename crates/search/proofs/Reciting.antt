@@ -7,7 +7,7 @@ use Rattle.puzzle.specs.Game.{Finishes}
 use Rattle.puzzle.specs.Meaning.{Meaning}
 use Rattle.open_list.specs.Entries.{Entry}
 use Rattle.search_theory.specs.Nodes.{Node}
-use Rattle.search_theory.specs.Known.{Leads, start, link, Found}
+use Rattle.search_theory.specs.inside.Invariants.{Leads, start, link, LinkedWay}
 use Rattle.search.specs.Contents.{nodes_from}
 use Rattle.search.proofs.Nodes.{node_parts}
 
@@ -34,7 +34,7 @@ module _ {P : Type 0} (m : Meaning P) where
     pub finish : Finishes m.game m.game.start (before ++ rest)
     pub written_is : now ≡ written left count rest old
 
-  pub reciting_begins : (nodes : List (Node P)) (place count : ℕ) (old : List ℕ) → Found m nodes count place → Reciting nodes place count count old old
+  pub reciting_begins : (nodes : List (Node P)) (place count : ℕ) (old : List ℕ) → LinkedWay m nodes count place → Reciting nodes place count count old old
   reciting_begins nodes place count old found = record {
     before = found.moves;
     rest = [];

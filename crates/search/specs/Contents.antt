@@ -1,7 +1,7 @@
 -- What a search holds, and the nodes that this shows. Assumes nothing.
-use Rattle.std.specs.Prelude.{◌≡◌, ℕ, ◌+◌, ◌*◌, ◌/◌, ◌%◌, ◌≤◌, Bool, true, cond, List, [], ◌∷◌, length, Some, None}
+use Rattle.std.specs.Prelude.{◌≡◌, ℕ, ◌+◌, ◌/◌, ◌%◌, Bool, cond, List, [], ◌∷◌, ◌++◌, length, Some, None}
 use Rattle.open_list.specs.Entries.{Entry}
-use Rattle.open_list.specs.OpenList.{Open}
+use Rattle.open_list.specs.OpenList.{Queue}
 use Rattle.hash_index.specs.Index.{Index}
 use Rattle.search_theory.specs.declared.Verdict.{Verdict}
 use Rattle.search_theory.specs.Nodes.{Node}
@@ -11,17 +11,14 @@ use Rattle.search_theory.specs.Calls.{Search}
 -- the lent table and the three parts of the lent list: open list, index and links; whether it is opened, its verdict and steps
 pub record Contents (P : Type 0) : Type 0 where
   pub table : List P
-  pub open_list : Open
+  pub open_list : Queue
   pub index : Index
   pub links : List ℕ
   pub opened : Bool
   pub verdict : Verdict
   pub steps : ℕ
 
--- a link is the parent's place and the move, which is below 256
-abbrev pub link_of : ℕ → ℕ → ℕ
-link_of parent move = 256 * parent + move
-
+-- a link is 256 times the parent's place, and the move
 abbrev pub node_of : {P : Type 0} → P → Entry → ℕ → ℕ → Node P
 node_of p e key link = record { position = p; depth = e.depth; parent = link / 256; move = link % 256; floor = e.floor; key = key; is_open = e.is_open }
 
@@ -43,6 +40,10 @@ module _ {P : Type 0} where
   abbrev pub state_of : Contents P → State P
   state_of c = state (nodes_of c) c.verdict c.steps
 
+  -- it lies in the lent memory: the table, and the list in its three parts
+  abbrev pub LiesIn : Contents P → List P → List ℕ → Type 0
+  LiesIn c table numbers = (c.table ≡ table) × (c.open_list.numbers ++ (c.index.numbers ++ c.links) ≡ numbers)
+
   -- the search as its calls see it
   abbrev pub search_of : Contents P → Search P
   search_of c = record {
@@ -50,24 +51,3 @@ module _ {P : Type 0} where
     numbers = numbers_of c;
     state = cond c.opened (Some (state_of c)) None;
   }
-
-  -- How the parts fit together: this is known of every search, whatever puzzles it was handed.
-  pub record Sound (c : Contents P) : Type 0 where
-    pub keyed : length c.index.keys ≡ length c.open_list.entries
-    pub used : length c.open_list.entries ≤ c.open_list.capacity
-    pub even : c.index.capacity ≡ c.open_list.capacity
-    pub deep : c.open_list.capacity ≤ length c.table
-    pub linked : c.open_list.capacity ≤ length c.links
-    pub few : c.open_list.capacity ≤ 1048576
-    pub whole : numbers_of c ≡ 8 * length c.table → (length c.open_list.numbers ≡ 4 * length c.table) × (length c.index.numbers ≡ 3 * length c.table) × (length c.links ≡ length c.table)
-    pub ready : c.opened ≡ true → c.open_list.capacity ≡ length c.table
-
-  -- nothing but the nodes and what they are kept in changed, and no place is given up
-  pub record Framed (old new : Contents P) : Type 0 where
-    pub table : length new.table ≡ length old.table
-    pub numbers : numbers_of new ≡ numbers_of old
-    pub capacity : new.open_list.capacity ≡ old.open_list.capacity
-    pub longer : length old.open_list.entries ≤ length new.open_list.entries
-    pub opened : new.opened ≡ old.opened
-    pub verdict : new.verdict ≡ old.verdict
-    pub steps : new.steps ≡ old.steps

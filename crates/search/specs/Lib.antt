@@ -1,3 +1,4 @@
 pub mod Contents
-pub mod Holder
-pub mod Parts
+pub mod Calls
+pub mod inside
+pub mod View

@@ -1,5 +1,5 @@
 ghost use Rattle.std.specs.Prelude.{◌≡◌, ◌<◌, ◌*◌, ◌+◌, ◌/◌, ◌%◌, length, slice_index, slice_set};
-ghost use Rattle.search.specs.Contents.{link_of};
+ghost use Rattle.search.specs.inside.Memory.{link_of};
 
 /// How many move numbers a link has room for.
 const MOVES_PER_LINK: u32 = 256;

@@ -28,9 +28,9 @@ impl<'a, P> Model for Search<'a, P> {
 
     ghost Value = { Contents P };
 
-    ghost use Rattle.search.specs.Holder.{contents, IsSound};
+    ghost use Rattle.search.specs.View.{contents, StructInvariant};
 
     ghost view = { contents };
 
-    ghost invariant = { IsSound };
+    ghost invariant = { StructInvariant };
 }

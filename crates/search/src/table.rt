@@ -1,5 +1,5 @@
 ghost use Rattle.std.specs.Prelude.{◌≡◌, ◌<◌, length, slice_get, slice_set, Some};
-ghost use Rattle.search.specs.Parts.{SameAt};
+ghost use Rattle.search.specs.inside.Parts.{SameAt};
 
 use puzzle::Puzzle;
 

@@ -1,2 +1,2 @@
 pub mod Graph
-pub mod Lawful
+pub mod laws

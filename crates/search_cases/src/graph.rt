@@ -1,7 +1,7 @@
 //! A small graph as a puzzle, with bounds that no level has: some that a move lowers by more than one, and one for a dead spot.
 ghost use Rattle.std.specs.Prelude.{◌≡◌, refl};
 ghost use Rattle.search_cases.specs.Graph.{leads, bound, meaning};
-ghost use Rattle.search_cases.specs.Lawful.{lawful};
+ghost use Rattle.search_cases.specs.laws.Lawful.{lawful};
 
 use puzzle::Puzzle;
 
@@ -70,7 +70,12 @@ pub(crate) struct Graph {
 impl Puzzle for Graph {
     type Position = Spot;
 
+    // The moves of a spot have nothing in common that would have to be computed.
+    type Prepared = ();
+
     ghost meaning = { λ z. meaning z.start };
+
+    ghost Prepares = { λ _ _ _. Unit {0} };
 
     const MOVES: u32 = 3;
 
@@ -84,7 +89,9 @@ impl Puzzle for Graph {
         self.start
     }
 
-    fn play(&self, from: &Spot, number: u32, into: &mut Spot) -> bool {
+    fn prepare(&self, _at: &Spot) {}
+
+    fn play(&self, from: &Spot, _prepared: &(), number: u32, into: &mut Spot) -> bool {
         let Some(to) = from.leads().get(number as usize) else {
             return false;
         };

@@ -1,11 +1,9 @@
 //! Searches of levels of both kinds.
-use crate::said::{End, ROOM, bears, ends_so};
-use atoms_puzzle::BareAtomPuzzle;
+use crate::said::{End, ROOM, ends_safely, ends_so};
 use levels::{Level, read_level};
 use puzzle::Puzzle;
 use refusals::Refusal;
 use search_theory::Verdict;
-use tiles_puzzle::TilePuzzle;
 
 // A level's text, the places of the table, how the search ends, and the moves.
 static ENDS: [(&str, usize, End, &[u32]); 22] = [
@@ -150,14 +148,12 @@ fn ends(rt: HostRuntime) -> Result<(), Refusal> {
         let places = places.min(ROOM);
         match read_level(text.as_bytes())? {
             Level::Tiles(level) => {
-                let puzzle = TilePuzzle::new(level);
-                let mut table = [puzzle.start(); ROOM];
-                ends_so(&rt, &puzzle, &mut table[..places], due, moves, text);
+                let mut table = [level.start(); ROOM];
+                ends_so(&rt, &level, &mut table[..places], due, moves, text);
             }
             Level::Atoms(level) => {
-                let puzzle = BareAtomPuzzle(level);
-                let mut table = [puzzle.start(); ROOM];
-                ends_so(&rt, &puzzle, &mut table[..places], due, moves, text);
+                let mut table = [level.start(); ROOM];
+                ends_so(&rt, &level, &mut table[..places], due, moves, text);
             }
         }
     }
@@ -201,18 +197,16 @@ static OTHERS: [(&str, &str); 8] = [
 ];
 
 #[test]
-fn bears_other_levels(rt: HostRuntime) -> Result<(), Refusal> {
+fn ends_safely_on_other_levels(rt: HostRuntime) -> Result<(), Refusal> {
     for (text, other) in OTHERS {
         match (read_level(text.as_bytes())?, read_level(other.as_bytes())?) {
             (Level::Tiles(opened), Level::Tiles(handed)) => {
-                let puzzle = TilePuzzle::new(opened);
-                let mut table = [puzzle.start(); ROOM];
-                bears(&rt, &puzzle, &TilePuzzle::new(handed), &mut table, text);
+                let mut table = [opened.start(); ROOM];
+                ends_safely(&rt, &opened, &handed, &mut table, text);
             }
             (Level::Atoms(opened), Level::Atoms(handed)) => {
-                let puzzle = BareAtomPuzzle(opened);
-                let mut table = [puzzle.start(); ROOM];
-                bears(&rt, &puzzle, &BareAtomPuzzle(handed), &mut table, text);
+                let mut table = [opened.start(); ROOM];
+                ends_safely(&rt, &opened, &handed, &mut table, text);
             }
             _ => panic!(rt; "levels of two kinds"),
         }

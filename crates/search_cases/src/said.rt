@@ -39,7 +39,7 @@ pub(crate) enum Answer {
     Wrote(usize),
 }
 
-/// An answer, or a refusal's number, as the documents have it.
+/// An answer, or a refusal's number.
 pub(crate) type Said = Result<Answer, u32>;
 
 // What a call answers. A solution goes to the list.
@@ -140,7 +140,7 @@ pub(crate) fn ends_so<Z: Puzzle>(
 }
 
 /// Whatever puzzle a search is handed after its opening, its calls return, and none is refused that would not be.
-pub(crate) fn bears<Z: Puzzle>(
+pub(crate) fn ends_safely<Z: Puzzle>(
     rt: &impl Abort,
     opened: &Z,
     handed: &Z,

@@ -6,11 +6,11 @@ use Rattle.refusals.specs.declared.Fault.{Fault}
 use Rattle.puzzle.specs.Meaning.{Meaning, Lawful}
 use Rattle.search_theory.specs.declared.Verdict.TheVariants.{Running, Solved}
 use Rattle.search_theory.specs.declared.Advance.{Advance}
-use Rattle.search_theory.specs.Steps.{State, begun}
-use Rattle.search_theory.specs.Calls.{Search, new_search, with_state, unopened, open_refusal, recite_refusal, AdvancesBy, Recites, RecitesWay, Call, opening, advance, asking, recital, Happens, Run, none, then}
-use Rattle.search_theory.specs.Promise.{answered, granted}
-use Rattle.search_theory.proofs.Known.{begun_cases}
-use Rattle.search_theory.proofs.Stepping.{Honest, begun_honest}
+use Rattle.search_theory.specs.Steps.{State, first_state}
+use Rattle.search_theory.specs.Calls.{Search, new_search, with_state, is_unopened, open_refusal, recite_refusal, AdvancesBy, Recites, RecitesWay, Call, opening, advance, asking, recital, Happens, Run, none, then}
+use Rattle.search_theory.specs.Promise.{total_steps, total_budget}
+use Rattle.search_theory.proofs.Invariants.{first_state_cases}
+use Rattle.search_theory.proofs.Stepping.{Honest, first_state_honest}
 use Rattle.search_theory.proofs.Advancing.{steps_counted, steps_running, steps_final, steps_honest}
 
 -- a call is not refused where the test does not fail
@@ -29,7 +29,7 @@ module _ {P : Type 0} where
   may_open s e =
       let size = passes _ _ _ e in
       let list = passes _ _ _ size.1 in
-      let new = passes (unopened s) None _ list.1 in
+      let new = passes (is_unopened s) None _ list.1 in
       let both = and_parts (nat_le 1 s.places) (nat_le s.places 1048576) size.0 in
       record { some = leb-true 1 s.places both.0; few = leb-true s.places 1048576 both.1; unused = by_state s.state new.0 }
     where
@@ -49,11 +49,11 @@ module _ {P : Type 0} (m : Meaning P) (lawful : Lawful m) where
     unused : s.state ≡ None → (answers ≡ 0) × (grants ≡ 0)
     opened : (t : State P) → s.state ≡ Some t → Opened answers grants s t
 
-  kept_opening : (s : Search P) (answers grants : ℕ) → Kept answers grants s → open_refusal s ≡ None → Kept answers grants (with_state s (begun m s.places))
+  kept_opening : (s : Search P) (answers grants : ℕ) → Kept answers grants s → open_refusal s ≡ None → Kept answers grants (with_state s (first_state m s.places))
   kept_opening s answers grants kept accepted = record {
-    unused = λ e. absurd (none-some (begun m s.places) (sym e));
-    opened = λ t e. subst (λ z. Opened answers grants (with_state s (begun m s.places)) z) (same_Some (begun m s.places) t e) (record {
-      honest = begun_honest m s.places lawful may.some;
+    unused = λ e. absurd (none-some (first_state m s.places) (sym e));
+    opened = λ t e. subst (λ z. Opened answers grants (with_state s (first_state m s.places)) z) (same_Some (first_state m s.places) t e) (record {
+      honest = first_state_honest m s.places lawful may.some;
       few = may.few;
       counted = no_steps ∙ sym none_before.0;
       spent = λ runs. no_steps ∙ sym none_before.1;
@@ -66,8 +66,8 @@ module _ {P : Type 0} (m : Meaning P) (lawful : Lawful m) where
       none_before : (answers ≡ 0) × (grants ≡ 0)
       none_before = kept.unused may.unused
 
-      no_steps : (begun m s.places).steps ≡ 0
-      no_steps = begun_cases m s.places (λ t. t.steps ≡ 0) (λ floor is. refl) (λ is. refl)
+      no_steps : (first_state m s.places).steps ≡ 0
+      no_steps = first_state_cases m s.places (λ t. t.steps ≡ 0) (λ floor is. refl) (λ is. refl)
 
   kept_advance : (s : Search P) (answers grants budget : ℕ) (answer : Advance) (last : Search P) → Kept answers grants s → AdvancesBy m budget s answer last
       → Kept (answer.steps + answers) (budget + grants) last
@@ -87,20 +87,20 @@ module _ {P : Type 0} (m : Meaning P) (lawful : Lawful m) where
       taken : a.last.steps ≡ a.first.steps + answer.steps
       taken = steps_counted m s.places a.first answer.steps a.last a.steps
 
-  kept_call : (calls : List Call) (call : Call) (s last : Search P) → Kept (answered calls) (granted calls) s → Happens m s call last → Kept (answered (call ∷ calls)) (granted (call ∷ calls)) last
-  kept_call calls (opening (Ok u)) s last kept h = subst (λ z. Kept (answered calls) (granted calls) z) (sym h.1) (kept_opening s (answered calls) (granted calls) kept h.0)
-  kept_call calls (opening (Err e)) s last kept h = subst (λ z. Kept (answered calls) (granted calls) z) (sym h.1) kept
-  kept_call calls (advance budget (Ok answer)) s last kept h = kept_advance s (answered calls) (granted calls) budget answer last kept h
-  kept_call calls (advance budget (Err e)) s last kept h = subst (λ z. Kept (answered calls) (granted calls) z) (sym h.1) kept
-  kept_call calls (asking answer) s last kept h = subst (λ z. Kept (answered calls) (granted calls) z) (sym h.1) kept
-  kept_call calls (recital before answer after) s last kept h = subst (λ z. Kept (answered calls) (granted calls) z) (sym h.1) kept
+  kept_call : (calls : List Call) (call : Call) (s last : Search P) → Kept (total_steps calls) (total_budget calls) s → Happens m s call last → Kept (total_steps (call ∷ calls)) (total_budget (call ∷ calls)) last
+  kept_call calls (opening (Ok u)) s last kept h = subst (λ z. Kept (total_steps calls) (total_budget calls) z) (sym h.1) (kept_opening s (total_steps calls) (total_budget calls) kept h.0)
+  kept_call calls (opening (Err e)) s last kept h = subst (λ z. Kept (total_steps calls) (total_budget calls) z) (sym h.1) kept
+  kept_call calls (advance budget (Ok answer)) s last kept h = kept_advance s (total_steps calls) (total_budget calls) budget answer last kept h
+  kept_call calls (advance budget (Err e)) s last kept h = subst (λ z. Kept (total_steps calls) (total_budget calls) z) (sym h.1) kept
+  kept_call calls (asking answer) s last kept h = subst (λ z. Kept (total_steps calls) (total_budget calls) z) (sym h.1) kept
+  kept_call calls (recital before answer after) s last kept h = subst (λ z. Kept (total_steps calls) (total_budget calls) z) (sym h.1) kept
 
-  kept_run : (places numbers : ℕ) (calls : List Call) (s : Search P) → Run m (new_search places numbers) calls s → Kept (answered calls) (granted calls) s
+  kept_run : (places numbers : ℕ) (calls : List Call) (s : Search P) → Run m (new_search places numbers) calls s → Kept (total_steps calls) (total_budget calls) s
   kept_run places numbers [] s none = record { unused = λ e. (refl, refl); opened = λ t e. absurd (none-some t e) }
   kept_run places numbers (call ∷ calls) s (then {mid = mid} before happens) = kept_call calls call mid s (kept_run places numbers calls mid before) happens
 
   -- what holds of the search that calls led to, once it is opened
-  pub opened_run : (places numbers : ℕ) (calls : List Call) (s : Search P) → Run m (new_search places numbers) calls s → (t : State P) → s.state ≡ Some t → Opened (answered calls) (granted calls) s t
+  pub opened_run : (places numbers : ℕ) (calls : List Call) (s : Search P) → Run m (new_search places numbers) calls s → (t : State P) → s.state ≡ Some t → Opened (total_steps calls) (total_budget calls) s t
   opened_run places numbers calls s run = (kept_run places numbers calls s run).opened
 
 -- a recital of a solved search is not refused where there is room

@@ -3,13 +3,13 @@ use Rattle.std.proofs.Common.{◌≡◌, ℕ, ◌<◌, ◌≤◌, true, List, le
 use Rattle.puzzle.specs.Game.{Finishes}
 use Rattle.puzzle.specs.Meaning.{Meaning, Lawful}
 use Rattle.std.proofs.lemmas.Bool.{true≢false}
-use Rattle.search_theory.specs.Nodes.{Node, sum, Taken, NoneOpen}
-use Rattle.search_theory.specs.Known.{Found}
+use Rattle.search_theory.specs.Nodes.{Node, sum, IsTaken, NoneOpen}
+use Rattle.search_theory.specs.inside.Invariants.{LinkedWay}
 use Rattle.search_theory.proofs.Sound.{Sound, Everywhere, open_ahead}
 use Rattle.search_theory.proofs.Trails.{trail}
 
 -- only one node is taken
-pub taken_once : {P : Type 0} (nodes : List (Node P)) (i j : ℕ) (a b : Node P) → Taken nodes i a → Taken nodes j b → i ≡ j
+pub taken_once : {P : Type 0} (nodes : List (Node P)) (i j : ℕ) (a b : Node P) → IsTaken nodes i a → IsTaken nodes j b → i ≡ j
 taken_once nodes i j a b one other =
     let l = one.first j b other.there other.is_open in
     let r = other.first i a one.there one.is_open in
@@ -27,12 +27,12 @@ module _ {P : Type 0} (m : Meaning P) where
   -- no moves that finish are fewer, and the links of the node that is taken lead along as many
   pub record Shortest (nodes : List (Node P)) (n : ℕ) : Type 0 where
     pub least : (moves : List ℕ) → Finishes m.game m.game.start moves → n ≤ length moves
-    pub found : (place : ℕ) (node : Node P) → Taken nodes place node → Found m nodes n place
+    pub found : (place : ℕ) (node : Node P) → IsTaken nodes place node → LinkedWay m nodes n place
     pub reached : (moves : List ℕ) × (length moves ≡ n) × Finishes m.game m.game.start moves
     pub some_open : NoneOpen nodes → ⊥
     pub short : n < length nodes
 
-  module _ (lawful : Lawful m) (nodes : List (Node P)) (sound : Sound m Everywhere nodes) (place : ℕ) (node : Node P) (taken : Taken nodes place node) (fin : m.game.finished node.position ≡ true) where
+  module _ (lawful : Lawful m) (nodes : List (Node P)) (sound : Sound m Everywhere nodes) (place : ℕ) (node : Node P) (taken : IsTaken nodes place node) (fin : m.game.finished node.position ≡ true) where
     least_moves : (moves : List ℕ) → Finishes m.game m.game.start moves → node.depth ≤ length moves
     least_moves moves finish =
         let a = open_ahead m lawful nodes sound moves finish in
@@ -40,7 +40,7 @@ module _ {P : Type 0} (m : Meaning P) where
         let low = a.low in
         omega arith
 
-    found_there : Found m nodes node.depth place
+    found_there : LinkedWay m nodes node.depth place
     found_there =
         let t = trail m nodes sound.linked place node taken.there in
         let finish : Finishes m.game m.game.start t.moves = record { last = node.position; plays = t.plays; finished = fin } in
@@ -51,7 +51,7 @@ module _ {P : Type 0} (m : Meaning P) where
     pub shortest : Shortest nodes node.depth
     shortest = record {
       least = least_moves;
-      found = λ i other also. subst (λ k. Found m nodes node.depth k) (taken_once nodes place i node other taken also) found_there;
+      found = λ i other also. subst (λ k. LinkedWay m nodes node.depth k) (taken_once nodes place i node other taken also) found_there;
       reached = (found_there.moves, found_there.count, found_there.finish);
       short = sound.known.depth place node taken.there;
       some_open = λ shut. true≢false (sym taken.is_open ∙ shut place node taken.there);

@@ -1,5 +1,5 @@
 pub mod Places
-pub mod Known
+pub mod Invariants
 pub mod Sound
 pub mod Trails
 pub mod Weights

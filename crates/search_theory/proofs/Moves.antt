@@ -3,19 +3,19 @@ use Rattle.std.proofs.Common.{◌≡◌, ℕ, zero, suc, ◌+◌, ◌*◌, ◌<�
 use Rattle.std.proofs.lemmas.Option.{same_Some, none-some}
 use Rattle.std.proofs.lemmas.Bool.{true≢false, cases_eq}
 use Rattle.puzzle.specs.Meaning.{Meaning}
-use Rattle.search_theory.specs.Nodes.{Node, closed, reached_again, Taken}
+use Rattle.search_theory.specs.Nodes.{Node, closed_node, nearer_node, IsTaken}
 use Rattle.search_theory.specs.Steps.{new_node, MovePlayed, closed_move, dead_end, no_nearer, nearer, stored, MovesPlayed, none, next}
-use Rattle.search_theory.specs.Known.{Known}
+use Rattle.search_theory.specs.inside.Invariants.{NodeInvariant}
 use Rattle.search_theory.proofs.Places.{put_set}
-use Rattle.search_theory.proofs.Known.{known_move, known_closed, move_leaves}
-use Rattle.search_theory.proofs.Sound.{Improves, improves_set, improves_push, Stored, stored_kept, Covered, Linked, root, child, Settled, Sound, Everywhere, Elsewhere, improved}
+use Rattle.search_theory.proofs.Invariants.{known_move, known_closed, move_leaves}
+use Rattle.search_theory.proofs.Sound.{Improves, improves_set, improves_push, IsStored, stored_kept, Covered, Linked, root, child, Settled, Sound, Everywhere, Elsewhere, improved}
 use Rattle.search_theory.proofs.Weights.{weigh, weigh_push, weigh_set, open_weight}
 
 module _ {P : Type 0} (m : Meaning P) (capacity place : ℕ) (taken : Node P) (steps : ℕ) where
   -- the first few moves of the taken node are played
   pub record Halfway (number : ℕ) (nodes : List (Node P)) : Type 0 where
     pub sound : Sound m (Elsewhere place) nodes
-    pub at : slice_get nodes place ≡ Some (closed taken)
+    pub at : slice_get nodes place ≡ Some (closed_node taken)
     pub covered : Covered m nodes taken.position (taken.depth + 1) number
     pub budget : steps + 1 + weigh nodes ≤ capacity * length nodes
     pub room : length nodes ≤ capacity
@@ -23,18 +23,18 @@ module _ {P : Type 0} (m : Meaning P) (capacity place : ℕ) (taken : Node P) (s
 
   -- one move more is covered where what it leads to is stored
   covered_more : (nodes : List (Node P)) (number : ℕ) → Covered m nodes taken.position (taken.depth + 1) number
-      → ((q : P) (floor : ℕ) → m.game.move taken.position number ≡ Some q → m.lower_bound q ≡ Some floor → Stored nodes q (taken.depth + 1))
+      → ((q : P) (floor : ℕ) → m.game.move taken.position number ≡ Some q → m.lower_bound q ≡ Some floor → IsStored nodes q (taken.depth + 1))
       → Covered m nodes taken.position (taken.depth + 1) (suc number)
   covered_more nodes number before last k q floor below leads alive = by_number (cases_eq k number)
     where
-      by_number : (k ≡ number) ⊎ (k ≡ number → ⊥) → Stored nodes q (taken.depth + 1)
+      by_number : (k ≡ number) ⊎ (k ≡ number → ⊥) → IsStored nodes q (taken.depth + 1)
       by_number (inl same) = last q floor (ap (m.game.move taken.position) (sym same) ∙ leads) alive
       by_number (inr other) = before k q floor (omega arith) leads alive
 
   module _ (number : ℕ) (old : List (Node P)) (half : Halfway number old) (below : number < m.game.count) where
     -- a move that changes nothing
     unchanged : (new : List (Node P)) → new ≡ old
-        → ((q : P) (floor : ℕ) → m.game.move taken.position number ≡ Some q → m.lower_bound q ≡ Some floor → Stored old q (taken.depth + 1)) → Halfway (suc number) new
+        → ((q : P) (floor : ℕ) → m.game.move taken.position number ≡ Some q → m.lower_bound q ≡ Some floor → IsStored old q (taken.depth + 1)) → Halfway (suc number) new
     unchanged new same last = subst (λ ns. Halfway (suc number) ns) (sym same) (record {
       sound = half.sound;
       at = half.at;
@@ -51,7 +51,7 @@ module _ {P : Type 0} (m : Meaning P) (capacity place : ℕ) (taken : Node P) (s
         → steps + 1 + weigh new ≤ capacity * length new → length new ≤ capacity → length new ≤ 1 + length old → Halfway (suc number) new
     changed new q i y leads move better only is deep parent by is_open budget room one = record {
       sound = improved m (Elsewhere place) (Elsewhere place) old new i y better half.sound (λ j b at same. only j b at (same ∙ is)) known link (λ shut. absurd (true≢false (sym is_open ∙ shut))) (λ j other settles. settles);
-      at = move_leaves m capacity place taken number old new (closed taken) half.at (omega arith) move;
+      at = move_leaves m capacity place taken number old new (closed_node taken) half.at (omega arith) move;
       covered = covered_more new number
           (λ k r floor less to alive. stored_kept better r (taken.depth + 1) (half.covered k r floor less to alive))
           (λ r floor to alive. record { place = i; node = y; at = better.put.here; same = is ∙ same_Some q r (sym leads ∙ to); near = omega arith });
@@ -60,11 +60,11 @@ module _ {P : Type 0} (m : Meaning P) (capacity place : ℕ) (taken : Node P) (s
       few = (let few = half.few in omega arith);
     }
       where
-        known : Known m new
-        known = known_move m capacity place taken number old new half.sound.known (half.sound.known.reached place (closed taken) half.at) (half.sound.known.depth place (closed taken) half.at) below move
+        known : NodeInvariant m new
+        known = known_move m capacity place taken number old new half.sound.known (half.sound.known.reached place (closed_node taken) half.at) (half.sound.known.depth place (closed_node taken) half.at) below move
 
         link : Linked m old y
-        link = child (closed taken) (ap (slice_get old) parent ∙ half.at) (subst (λ k. k < m.game.count) (sym by) below)
+        link = child (closed_node taken) (ap (slice_get old) parent ∙ half.at) (subst (λ k. k < m.game.count) (sym by) below)
             (ap (m.game.move taken.position) by ∙ (leads ∙ ap Some (sym is))) (omega arith)
 
     halfway_move : (new : List (Node P)) → MovePlayed m capacity place taken number old new → Halfway (suc number) new
@@ -74,7 +74,7 @@ module _ {P : Type 0} (m : Meaning P) (capacity place : ℕ) (taken : Node P) (s
     halfway_move new (no_nearer q floor j node leads alive at is near same) =
         unchanged new same (λ r bound to lives. record { place = j; node = node; at = at; same = is ∙ same_Some q r (sym leads ∙ to); near = near })
     halfway_move new (nearer q floor j node leads alive at is far same) =
-        let y = reached_again node (taken.depth + 1) place number in
+        let y = nearer_node node (taken.depth + 1) place number in
         let budget = half.budget in
         let room = half.room in
         subst (λ ns. MovePlayed m capacity place taken number old ns → Halfway (suc number) ns) (sym same)
@@ -84,7 +84,7 @@ module _ {P : Type 0} (m : Meaning P) (capacity place : ℕ) (taken : Node P) (s
     halfway_move new (stored q floor leads fresh alive free same) =
         let y = new_node m capacity q (taken.depth + 1) place number floor in
         let budget = half.budget in
-        let deep = half.sound.known.depth place (closed taken) half.at in
+        let deep = half.sound.known.depth place (closed_node taken) half.at in
         subst (λ ns. MovePlayed m capacity place taken number old ns → Halfway (suc number) ns) (sym same)
         (λ move. changed (old ++ (y ∷ [])) q (length old) y leads move (improves_push old y) (λ i b there of. absurd (fresh i b there of))
         refl refl refl refl refl (simp (length-append, weigh_push) (omega arith)) (omega (arith, length-append old (y ∷ []))) (omega (arith, length-append old (y ∷ []))))
@@ -106,27 +106,27 @@ module _ {P : Type 0} (m : Meaning P) (capacity place : ℕ) (taken : Node P) (s
     where
       settled_at : (i : ℕ) (node : Node P) → slice_get nodes i ≡ Some node → node.is_open ≡ false → (i ≡ place) ⊎ (i ≡ place → ⊥) → Settled m nodes node
       settled_at i node at shut (inl same) =
-          let mine : closed taken ≡ node = same_Some (closed taken) node (sym half.at ∙ (ap (slice_get nodes) (sym same) ∙ at)) in
+          let mine : closed_node taken ≡ node = same_Some (closed_node taken) node (sym half.at ∙ (ap (slice_get nodes) (sym same) ∙ at)) in
           subst (λ n. Settled m nodes n) mine (record { unfinished = unfinished; covered = half.covered })
       settled_at i node at shut (inr other) = half.sound.settled i node at shut other
 
   -- a taken node is closed before its moves are played
-  module _ (nodes : List (Node P)) (there : Taken nodes place taken) where
-    closed_linked : Linked m nodes taken → Linked m nodes (closed taken)
+  module _ (nodes : List (Node P)) (there : IsTaken nodes place taken) where
+    closed_linked : Linked m nodes taken → Linked m nodes (closed_node taken)
     closed_linked (root is) = root is
     closed_linked (child parent at below leads fewer) = child parent at below leads fewer
 
     pub halfway_begun : Sound m Everywhere nodes → steps + weigh nodes ≤ capacity * length nodes → length nodes ≤ capacity → length nodes ≤ 1 + m.game.count * steps
-        → Halfway 0 (slice_set nodes place (closed taken))
+        → Halfway 0 (slice_set nodes place (closed_node taken))
     halfway_begun sound budget room few = record {
-      sound = improved m Everywhere (Elsewhere place) nodes (slice_set nodes place (closed taken)) place (closed taken)
-          (improves_set nodes place taken (closed taken) there.there refl (omega arith)) sound
+      sound = improved m Everywhere (Elsewhere place) nodes (slice_set nodes place (closed_node taken)) place (closed_node taken)
+          (improves_set nodes place taken (closed_node taken) there.there refl (omega arith)) sound
           (λ j b at same. sound.apart j place b taken at there.there same)
           (known_closed m nodes place taken sound.known there.there) (closed_linked (sound.linked place taken there.there))
           (λ shut settles. settles refl) (λ j other settles. tt);
-      at = (put_set nodes place taken (closed taken) there.there).here;
+      at = (put_set nodes place taken (closed_node taken) there.there).here;
       covered = λ number q floor below leads alive. absurd (omega arith);
-      budget = simp length-set (omega (arith, weigh_set nodes place taken (closed taken) there.there, open_weight taken there.is_open));
-      room = omega (arith, length-set nodes place (closed taken));
-      few = omega (arith, length-set nodes place (closed taken));
+      budget = simp length-set (omega (arith, weigh_set nodes place taken (closed_node taken) there.there, open_weight taken there.is_open));
+      room = omega (arith, length-set nodes place (closed_node taken));
+      few = omega (arith, length-set nodes place (closed_node taken));
     }

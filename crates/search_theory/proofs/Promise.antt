@@ -5,8 +5,8 @@ use Rattle.std.proofs.lemmas.Bool.{true≢false}
 use Rattle.puzzle.specs.Meaning.{Meaning, Lawful}
 use Rattle.search_theory.specs.declared.Verdict.TheVariants.{Running, Solved, Unsolvable, TableFull}
 use Rattle.search_theory.specs.Steps.{State, Steps, none}
-use Rattle.search_theory.specs.Calls.{Search, Served}
-use Rattle.search_theory.specs.Known.{Held}
+use Rattle.search_theory.specs.Calls.{Search, AllCallsFor}
+use Rattle.search_theory.specs.inside.Invariants.{SearchInvariant}
 use Rattle.search_theory.specs.Promise.{Promise}
 use Rattle.search_theory.proofs.Weights.{open_weighs}
 use Rattle.search_theory.proofs.Crowds.{distinct_positions}
@@ -51,9 +51,9 @@ module _ {P : Type 0} (m : Meaning P) where
       }
 
   -- what is known of an opened search, and after steps that it takes within one call
-  pub held_steps : Lawful m → (s : Search P) → Served m s → (first : State P) → s.state ≡ Some first → (n : ℕ) (t : State P) → Steps m s.places first n t → Held m s t
-  held_steps lawful s served first is n t steps =
-      let o = opened_run m lawful served.places served.numbers served.calls s served.run first is in
+  pub search_invariant_steps : Lawful m → (s : Search P) → AllCallsFor m s → (first : State P) → s.state ≡ Some first → (n : ℕ) (t : State P) → Steps m s.places first n t → SearchInvariant m s t
+  search_invariant_steps lawful s all_calls first is n t steps =
+      let o = opened_run m lawful all_calls.places all_calls.numbers all_calls.calls s all_calls.run first is in
       let honest = steps_honest m s.places lawful first n t steps o.honest in
       record {
         known = honest.known;
@@ -61,9 +61,9 @@ module _ {P : Type 0} (m : Meaning P) where
         room = honest.room;
         unended = steps_left s.places t honest;
         busy = λ runs shut. (let p = says_that m s.places t honest Running runs in true≢false (sym p.is_open ∙ shut p.place p.node p.at));
-        shown = λ n solved. (says_that m s.places t honest (Solved n) solved).some_open;
+        solved_open = λ n solved. (says_that m s.places t honest (Solved n) solved).some_open;
         found = λ n solved. (says_that m s.places t honest (Solved n) solved).found;
       }
 
-  pub held : Lawful m → (s : Search P) → Served m s → (t : State P) → s.state ≡ Some t → Held m s t
-  held lawful s served t is = held_steps lawful s served t is 0 t none
+  pub search_invariant : Lawful m → (s : Search P) → AllCallsFor m s → (t : State P) → s.state ≡ Some t → SearchInvariant m s t
+  search_invariant lawful s all_calls t is = search_invariant_steps lawful s all_calls t is 0 t none

@@ -5,7 +5,7 @@ use Rattle.std.proofs.lemmas.Bool.{true≢false, cases_eq}
 use Rattle.puzzle.specs.Game.{Plays, Reached, here, then, Finishes}
 use Rattle.puzzle.specs.Meaning.{Meaning, Lawful}
 use Rattle.search_theory.specs.Nodes.{Node, sum}
-use Rattle.search_theory.specs.Known.{Known}
+use Rattle.search_theory.specs.inside.Invariants.{NodeInvariant}
 use Rattle.search_theory.proofs.Places.{Put, put_set, put_push}
 use Rattle.puzzle.proofs.Reaching.{reached_more}
 
@@ -31,17 +31,17 @@ abbrev pub Apart : {P : Type 0} → List (Node P) → Type 0
 Apart {P} nodes = (i j : ℕ) (a b : Node P) → slice_get nodes i ≡ Some a → slice_get nodes j ≡ Some b → a.position ≡ b.position → i ≡ j
 
 -- a position is stored, reached with at most so many moves
-pub record Stored {P : Type 0} (nodes : List (Node P)) (p : P) (most : ℕ) : Type 0 where
+pub record IsStored {P : Type 0} (nodes : List (Node P)) (p : P) (most : ℕ) : Type 0 where
   pub place : ℕ
   pub node : Node P
   pub at : slice_get nodes place ≡ Some node
   pub same : node.position ≡ p
   pub near : node.depth ≤ most
 
-pub stored_kept : {P : Type 0} {old new : List (Node P)} {i : ℕ} {y : Node P} → Improves old new i y → (p : P) (most : ℕ) → Stored old p most → Stored new p most
+pub stored_kept : {P : Type 0} {old new : List (Node P)} {i : ℕ} {y : Node P} → Improves old new i y → (p : P) (most : ℕ) → IsStored old p most → IsStored new p most
 stored_kept {P} {old} {new} {i} {y} better p most s = by_place (cases_eq s.place i)
   where
-    by_place : (s.place ≡ i) ⊎ (s.place ≡ i → ⊥) → Stored new p most
+    by_place : (s.place ≡ i) ⊎ (s.place ≡ i → ⊥) → IsStored new p most
     by_place (inl same) =
         let o = better.over s.node (subst (λ k. slice_get old k ≡ Some s.node) same s.at) in
         let low = o.1 in
@@ -59,7 +59,7 @@ Elsewhere place i = i ≡ place → ⊥
 module _ {P : Type 0} (m : Meaning P) where
   -- what the first few moves from a position lead to is stored, if it is not dead
   abbrev pub Covered : List (Node P) → P → ℕ → ℕ → Type 0
-  Covered nodes p most count = (number : ℕ) (q : P) (floor : ℕ) → number < count → m.game.move p number ≡ Some q → m.lower_bound q ≡ Some floor → Stored nodes q most
+  Covered nodes p most count = (number : ℕ) (q : P) (floor : ℕ) → number < count → m.game.move p number ≡ Some q → m.lower_bound q ≡ Some floor → IsStored nodes q most
 
   -- a node holds the start, or was reached by its move from its parent, which was reached with fewer
   pub data Linked (nodes : List (Node P)) (node : Node P) : Type 0 where
@@ -74,9 +74,9 @@ module _ {P : Type 0} (m : Meaning P) where
 
   -- the closed nodes at some places are settled
   pub record Sound (Settles : ℕ → Type 0) (nodes : List (Node P)) : Type 0 where
-    pub known : Known m nodes
+    pub known : NodeInvariant m nodes
     pub apart : Apart nodes
-    pub begins : Stored nodes m.game.start 0
+    pub begins : IsStored nodes m.game.start 0
     pub settled : (i : ℕ) (node : Node P) → slice_get nodes i ≡ Some node → node.is_open ≡ false → Settles i → Settled nodes node
     pub linked : (i : ℕ) (node : Node P) → slice_get nodes i ≡ Some node → Linked nodes node
 
@@ -109,7 +109,7 @@ module _ {P : Type 0} (m : Meaning P) where
         by_both (inr l) (inr r) = sound.apart j k a b l.1 r.1 same
 
     -- one better node keeps all of it
-    pub improved : Known m new → Linked old y → (y.is_open ≡ false → After i → ⊥) → ((j : ℕ) → (j ≡ i → ⊥) → After j → Before j) → Sound After new
+    pub improved : NodeInvariant m new → Linked old y → (y.is_open ≡ false → After i → ⊥) → ((j : ℕ) → (j ≡ i → ⊥) → After j → Before j) → Sound After new
     improved known link unsettled fewer = record {
       known = known;
       apart = improved_apart;
@@ -148,7 +148,7 @@ module _ {P : Type 0} (m : Meaning P) where
         → (most : ℕ) → node.depth + length moves ≤ most → (b : Bool) → node.is_open ≡ b → Ahead nodes most
     ahead p q moves plays fin i node at is most near true is_open =
         let finish : Finishes m.game node.position moves = record { last = q; plays = subst (λ z. Plays m.game z moves q) (sym is) plays; finished = fin } in
-        let low = lawful.bounded node.position (sound.known.reached i node at) node.floor (sound.known.floor i node at) moves finish in
+        let low = lawful.admissible node.position (sound.known.reached i node at) node.floor (sound.known.floor i node at) moves finish in
         record { place = i; node = node; at = at; is_open = is_open; low = omega arith }
     ahead p q [] here fin i node at is most near false shut =
         let s = sound.settled i node at shut tt in

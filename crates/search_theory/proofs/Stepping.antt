@@ -6,10 +6,10 @@ use Rattle.puzzle.specs.Game.{here, Finishes, CanReach}
 use Rattle.puzzle.specs.Meaning.{Meaning, Lawful}
 use Rattle.search_theory.specs.declared.Verdict.{Verdict}
 use Rattle.search_theory.specs.declared.Verdict.TheVariants.{Running, Solved, Unsolvable, TableFull}
-use Rattle.search_theory.specs.Nodes.{Node, closed, Taken}
-use Rattle.search_theory.specs.Steps.{State, state, new_node, begun, MovesPlayed, Overflows, GoesOn, some_open, none_open, Step, finishes, expands, overflows}
-use Rattle.search_theory.specs.Known.{Known}
-use Rattle.search_theory.proofs.Known.{known_begun, begun_cases}
+use Rattle.search_theory.specs.Nodes.{Node, closed_node, IsTaken}
+use Rattle.search_theory.specs.Steps.{State, state, new_node, first_state, MovesPlayed, Overflows, GoesOn, some_open, none_open, Step, finishes, expands, overflows}
+use Rattle.search_theory.specs.inside.Invariants.{NodeInvariant}
+use Rattle.search_theory.proofs.Invariants.{known_first_state, first_state_cases}
 use Rattle.search_theory.proofs.Sound.{Apart, root, Sound, Everywhere, open_ahead}
 use Rattle.search_theory.proofs.Weights.{weigh}
 use Rattle.search_theory.proofs.Moves.{Halfway, halfway, halfway_begun, settle}
@@ -35,7 +35,7 @@ module _ {P : Type 0} (m : Meaning P) (capacity : ℕ) where
 
   -- what holds of each state
   pub record Honest (t : State P) : Type 0 where
-    pub known : Known m t.nodes
+    pub known : NodeInvariant m t.nodes
     pub apart : Apart t.nodes
     pub room : length t.nodes ≤ capacity
     pub few : length t.nodes ≤ 1 + m.game.count * t.steps
@@ -44,7 +44,7 @@ module _ {P : Type 0} (m : Meaning P) (capacity : ℕ) where
   pub says_that : (t : State P) → Honest t → (verdict : Verdict) → t.verdict ≡ verdict → Says t.nodes t.steps verdict
   says_that t honest verdict is = subst (λ v. Says t.nodes t.steps v) is honest.says
 
-  module _ (lawful : Lawful m) (old : State P) (honest : Honest old) (runs : old.verdict ≡ Running) (place : ℕ) (node : Node P) (taken : Taken old.nodes place node) where
+  module _ (lawful : Lawful m) (old : State P) (honest : Honest old) (runs : old.verdict ≡ Running) (place : ℕ) (node : Node P) (taken : IsTaken old.nodes place node) where
     before : Proceeds old.nodes old.steps
     before = says_that old honest Running runs
 
@@ -58,10 +58,10 @@ module _ {P : Type 0} (m : Meaning P) (capacity : ℕ) where
     }
 
     -- some of its moves are played
-    pub played : (number : ℕ) (nodes : List (Node P)) → number ≤ m.game.count → MovesPlayed m capacity place node (slice_set old.nodes place (closed node)) number nodes
+    pub played : (number : ℕ) (nodes : List (Node P)) → number ≤ m.game.count → MovesPlayed m capacity place node (slice_set old.nodes place (closed_node node)) number nodes
         → Halfway m capacity place node old.steps number nodes
     played number nodes below moves =
-        halfway m capacity place node old.steps number (slice_set old.nodes place (closed node)) nodes
+        halfway m capacity place node old.steps number (slice_set old.nodes place (closed_node node)) nodes
         (halfway_begun m capacity place node old.steps old.nodes taken before.sound before.budget honest.room honest.few) below moves
 
     played_honest : (number : ℕ) (nodes : List (Node P)) → number ≤ m.game.count → Halfway m capacity place node old.steps number nodes
@@ -74,14 +74,14 @@ module _ {P : Type 0} (m : Meaning P) (capacity : ℕ) where
       says = says;
     }
 
-    step_overflowed : (number : ℕ) (nodes : List (Node P)) → MovesPlayed m capacity place node (slice_set old.nodes place (closed node)) number nodes → number < m.game.count
+    step_overflowed : (number : ℕ) (nodes : List (Node P)) → MovesPlayed m capacity place node (slice_set old.nodes place (closed_node node)) number nodes → number < m.game.count
         → Overflows m capacity place node number nodes → Honest (state nodes TableFull (old.steps + 1))
     step_overflowed number nodes moves below over =
         let half = played number nodes (omega arith) moves in
         played_honest number nodes (omega arith) half TableFull
-        (crowd m capacity place number node nodes half.sound.known (half.sound.known.reached place (closed node) half.at) below over half.sound.apart half.room)
+        (crowd m capacity place number node nodes half.sound.known (half.sound.known.reached place (closed_node node) half.at) below over half.sound.apart half.room)
 
-    step_goes_on : m.game.finished node.position ≡ false → (nodes : List (Node P)) → MovesPlayed m capacity place node (slice_set old.nodes place (closed node)) m.game.count nodes
+    step_goes_on : m.game.finished node.position ≡ false → (nodes : List (Node P)) → MovesPlayed m capacity place node (slice_set old.nodes place (closed_node node)) m.game.count nodes
         → (verdict : Verdict) → GoesOn m capacity nodes verdict → Honest (state nodes verdict (old.steps + 1))
     step_goes_on unfinished nodes moves verdict on =
         let half = played m.game.count nodes (omega arith) moves in
@@ -108,7 +108,7 @@ module _ {P : Type 0} (m : Meaning P) (capacity : ℕ) where
   only_one y zero a at = (refl, same_Some y a at)
   only_one y (suc i) a at = absurd (none-some a at)
 
-  start_sound : (y : Node P) → y.position ≡ m.game.start → y.depth ≡ 0 → y.is_open ≡ true → Known m (y ∷ []) → Sound m Everywhere (y ∷ [])
+  start_sound : (y : Node P) → y.position ≡ m.game.start → y.depth ≡ 0 → y.is_open ≡ true → NodeInvariant m (y ∷ []) → Sound m Everywhere (y ∷ [])
   start_sound y is none is_open known = record {
     known = known;
     apart = λ i j a b at bt same. (only_one y i a at).0 ∙ sym (only_one y j b bt).0;
@@ -118,10 +118,10 @@ module _ {P : Type 0} (m : Meaning P) (capacity : ℕ) where
   }
 
   -- a search that begins holds the start, or nothing
-  pub begun_honest : Lawful m → 1 ≤ capacity → Honest (begun m capacity)
-  begun_honest lawful some = begun_cases m capacity (λ t. Known m t.nodes → Honest t) alive dead (known_begun m capacity)
+  pub first_state_honest : Lawful m → 1 ≤ capacity → Honest (first_state m capacity)
+  first_state_honest lawful some = first_state_cases m capacity (λ t. NodeInvariant m t.nodes → Honest t) alive dead (known_first_state m capacity)
     where
-      alive : (floor : ℕ) → m.lower_bound m.game.start ≡ Some floor → Known m (new_node m capacity m.game.start 0 0 0 floor ∷ [])
+      alive : (floor : ℕ) → m.lower_bound m.game.start ≡ Some floor → NodeInvariant m (new_node m capacity m.game.start 0 0 0 floor ∷ [])
           → Honest (state (new_node m capacity m.game.start 0 0 0 floor ∷ []) Running 0)
       alive floor is known =
           let y = new_node m capacity m.game.start 0 0 0 floor in
@@ -134,7 +134,7 @@ module _ {P : Type 0} (m : Meaning P) (capacity : ℕ) where
             says = record { sound = sound; budget = omega arith; place = 0; node = y; at = refl; is_open = refl };
           }
 
-      dead : m.lower_bound m.game.start ≡ None → Known m [] → Honest (state [] Unsolvable 0)
+      dead : m.lower_bound m.game.start ≡ None → NodeInvariant m [] → Honest (state [] Unsolvable 0)
       dead is known = record {
         known = known;
         apart = λ i j a b at bt same. absurd (none-some a at);

@@ -3,7 +3,7 @@ use Rattle.std.proofs.Common.{◌≡◌, ℕ, zero, suc, ◌<◌, ◌≤◌, Lis
 use Rattle.puzzle.specs.Game.{Plays, here}
 use Rattle.puzzle.specs.Meaning.{Meaning}
 use Rattle.search_theory.specs.Nodes.{Node}
-use Rattle.search_theory.specs.Known.{Leads, start, link}
+use Rattle.search_theory.specs.inside.Invariants.{Leads, start, link}
 use Rattle.puzzle.proofs.Reaching.{plays_more}
 use Rattle.search_theory.proofs.Sound.{Linked, root, child}
 

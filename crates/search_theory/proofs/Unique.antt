@@ -5,7 +5,7 @@ use Rattle.std.proofs.lemmas.Bool.{true≢false, cases_eq, cases_order, cond_bel
 use Rattle.puzzle.specs.Meaning.{Meaning, Lawful}
 use Rattle.search_theory.specs.declared.Verdict.{Verdict}
 use Rattle.search_theory.specs.declared.Verdict.TheVariants.{Running, Solved, TableFull}
-use Rattle.search_theory.specs.Nodes.{Node, closed, reached_again, Taken, IsNew}
+use Rattle.search_theory.specs.Nodes.{Node, closed_node, nearer_node, IsTaken, IsNew}
 use Rattle.search_theory.specs.Steps.{State, state, new_node, MovePlayed, closed_move, dead_end, no_nearer, nearer, stored, MovesPlayed, none, next, Overflows, GoesOn, some_open, none_open, Step, finishes, expands, overflows}
 use Rattle.search_theory.proofs.Sound.{Apart}
 use Rattle.search_theory.proofs.Finishing.{taken_once}
@@ -16,7 +16,7 @@ module _ {P : Type 0} (m : Meaning P) (capacity place : ℕ) (taken : Node P) wh
     -- what becomes of a result that is not dead
     data Lands (q : P) (floor : ℕ) (new : List (Node P)) : Type 0 where
       again : (j : ℕ) (node : Node P) → slice_get old j ≡ Some node → node.position ≡ q
-          → new ≡ cond (nat_lt (taken.depth + 1) node.depth) (slice_set old j (reached_again node (taken.depth + 1) place number)) old → Lands q floor new
+          → new ≡ cond (nat_lt (taken.depth + 1) node.depth) (slice_set old j (nearer_node node (taken.depth + 1) place number)) old → Lands q floor new
       fresh : IsNew old q → length old < capacity → new ≡ old ++ (new_node m capacity q (taken.depth + 1) place number floor ∷ []) → Lands q floor new
 
     -- what the move makes of the nodes, by its result, and by the bound of that
@@ -100,7 +100,7 @@ module _ {P : Type 0} (m : Meaning P) (capacity : ℕ) where
   module _ (old : State P) where
     -- a taken node is closed before its moves are played
     abbrev first : ℕ → Node P → List (Node P)
-    first place node = slice_set old.nodes place (closed node)
+    first place node = slice_set old.nodes place (closed_node node)
 
     -- what a step makes of a taken node that is not finished
     data Plays (place : ℕ) (node : Node P) (new : State P) : Type 0 where
@@ -118,7 +118,7 @@ module _ {P : Type 0} (m : Meaning P) (capacity : ℕ) where
       runs : old.verdict ≡ Running
       place : ℕ
       node : Node P
-      taken : Taken old.nodes place node
+      taken : IsTaken old.nodes place node
       ends : Ends place node new (m.game.finished node.position)
 
     step_from : (new : State P) → Step m capacity old new → From new
@@ -128,7 +128,7 @@ module _ {P : Type 0} (m : Meaning P) (capacity : ℕ) where
     step_from new (overflows place number node nodes runs taken unfinished moves below over same) =
         record { runs = runs; place = place; node = node; taken = taken; ends = subst (λ f. Ends place node new f) (sym unfinished) (some number nodes moves below over same) }
 
-    module _ (lawful : Lawful m) (honest : Honest m capacity old) (runs : old.verdict ≡ Running) (place : ℕ) (node : Node P) (taken : Taken old.nodes place node) (a b : State P) where
+    module _ (lawful : Lawful m) (honest : Honest m capacity old) (runs : old.verdict ≡ Running) (place : ℕ) (node : Node P) (taken : IsTaken old.nodes place node) (a b : State P) where
       apart : (number : ℕ) (nodes : List (Node P)) → number ≤ m.game.count → MovesPlayed m capacity place node (first place node) number nodes → Apart nodes
       apart number nodes below moves = (played m capacity lawful old honest runs place node taken number nodes below moves).sound.apart
 

@@ -8,7 +8,7 @@ use Rattle.search_theory.specs.declared.Verdict.{Verdict}
 use Rattle.search_theory.specs.declared.Verdict.TheVariants.{Running, Solved, Unsolvable, TableFull}
 use Rattle.search_theory.specs.declared.Advance.{Advance}
 use Rattle.search_theory.specs.declared.Report.{Report}
-use Rattle.search_theory.specs.Steps.{State, Steps, begun}
+use Rattle.search_theory.specs.Steps.{State, Steps, first_state}
 
 -- a search over a table of some places and a list of some numbers
 pub record Search (P : Type 0) : Type 0 where
@@ -25,42 +25,42 @@ with_state s t = record s { state = Some t }
 
 -- Why a call is refused: the first that holds.
 
-abbrev pub unopened : {P : Type 0} → Search P → Bool
-unopened s = elim s.state [ Some t ↦ false | None ↦ true ]
+abbrev pub is_unopened : {P : Type 0} → Search P → Bool
+is_unopened s = elim s.state [ Some t ↦ false | None ↦ true ]
 
 abbrev pub open_refusal : {P : Type 0} → Search P → Option Fault
 open_refusal s =
     cond (nat_le 1 s.places && nat_le s.places 1048576)
-    (cond (s.numbers == 8 * s.places) (cond (unopened s) None (Some AlreadyOpen)) (Some ListSize))
+    (cond (s.numbers == 8 * s.places) (cond (is_unopened s) None (Some AlreadyOpen)) (Some ListSize))
     (Some TableSize)
 
 abbrev pub advance_refusal : {P : Type 0} → Search P → ℕ → Option Fault
-advance_refusal s budget = cond (unopened s) (Some NotOpen) (cond (nat_le 1 budget) None (Some NoBudget))
+advance_refusal s budget = cond (is_unopened s) (Some NotOpen) (cond (nat_le 1 budget) None (Some NoBudget))
 
 abbrev pub verdict_refusal : {P : Type 0} → Search P → Option Fault
-verdict_refusal s = cond (unopened s) (Some NotOpen) None
+verdict_refusal s = cond (is_unopened s) (Some NotOpen) None
 
--- the moves go into a list of some places
-abbrev pub recite_refused_as : Verdict → ℕ → Option Fault
-recite_refused_as Running room = Some NotSolved
-recite_refused_as (Solved n) room = cond (nat_le n room) None (Some ShortList)
-recite_refused_as Unsolvable room = Some NotSolved
-recite_refused_as TableFull room = Some NotSolved
+-- under a verdict; the moves go into a list of some places
+abbrev pub recite_refusal_under : Verdict → ℕ → Option Fault
+recite_refusal_under Running room = Some NotSolved
+recite_refusal_under (Solved n) room = cond (nat_le n room) None (Some ShortList)
+recite_refusal_under Unsolvable room = Some NotSolved
+recite_refusal_under TableFull room = Some NotSolved
 
 abbrev pub recite_refusal : {P : Type 0} → Search P → ℕ → Option Fault
-recite_refusal s room = elim s.state [ Some t ↦ recite_refused_as t.verdict room | None ↦ Some NotOpen ]
+recite_refusal s room = elim s.state [ Some t ↦ recite_refusal_under t.verdict room | None ↦ Some NotOpen ]
 
 -- what a refused call answers
 abbrev pub refusal_in : {A : Type 0} → Result A Fault → Option Fault
 refusal_in (Ok a) = None
 refusal_in (Err e) = Some e
 
--- What an advance keeps, whatever puzzle it is handed: the search stays open, the steps are within the budget, and after
--- a final verdict there are none.
-pub record Bears {P : Type 0} (budget : ℕ) (old : Search P) (answer : Advance) (new : Search P) : Type 0 where
+-- What holds of every advance, whatever puzzle it is handed: the search stays open, the steps are within the budget, and
+-- after a final verdict there are none.
+pub record AdvanceInvariant {P : Type 0} (budget : ℕ) (old : Search P) (answer : Advance) (new : Search P) : Type 0 where
   pub places : new.places ≡ old.places
   pub numbers : new.numbers ≡ old.numbers
-  pub opened : unopened new ≡ false
+  pub opened : is_unopened new ≡ false
   pub within : answer.steps ≤ budget
   pub final : (t : State P) → old.state ≡ Some t → (t.verdict ≡ Running → ⊥) → (new ≡ old) × (answer.steps ≡ 0)
 
@@ -81,7 +81,7 @@ module _ {P : Type 0} (m : Meaning P) where
   -- What the calls do for a puzzle. A refusal changes nothing.
 
   abbrev pub Opens : Search P → Result (Unit {0}) Fault → Search P → Type 0
-  Opens old (Ok _) new = (open_refusal old ≡ None) × (new ≡ with_state old (begun m old.places))
+  Opens old (Ok _) new = (open_refusal old ≡ None) × (new ≡ with_state old (first_state m old.places))
   Opens old (Err e) new = (open_refusal old ≡ Some e) × (new ≡ old)
 
   -- an advance takes its budget of steps, unless a final verdict ends it sooner
@@ -132,7 +132,7 @@ module _ {P : Type 0} (m : Meaning P) where
     then : {calls : List Call} {call : Call} {mid last : Search P} → Run first calls mid → Happens mid call last → Run first (call ∷ calls) last
 
   -- all calls so far were for this puzzle
-  pub record Served (s : Search P) : Type 0 where
+  pub record AllCallsFor (s : Search P) : Type 0 where
     pub places : ℕ
     pub numbers : ℕ
     pub calls : List Call

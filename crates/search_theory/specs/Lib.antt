@@ -1,5 +1,5 @@
 pub mod Nodes
 pub mod Steps
 pub mod Calls
-pub mod Known
 pub mod Promise
+pub mod inside

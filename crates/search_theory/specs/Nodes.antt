@@ -14,12 +14,12 @@ pub record Node (P : Type 0) : Type 0 where
   pub key : ℕ
   pub is_open : Bool
 
-abbrev pub closed : {P : Type 0} → Node P → Node P
-closed n = record n { is_open = false }
+abbrev pub closed_node : {P : Type 0} → Node P → Node P
+closed_node n = record n { is_open = false }
 
 -- a stored node that was reached with fewer moves takes the smaller number, and is open again
-abbrev pub reached_again : {P : Type 0} → Node P → ℕ → ℕ → ℕ → Node P
-reached_again n depth parent move = record n { depth = depth; parent = parent; move = move; is_open = true }
+abbrev pub nearer_node : {P : Type 0} → Node P → ℕ → ℕ → ℕ → Node P
+nearer_node n depth parent move = record n { depth = depth; parent = parent; move = move; is_open = true }
 
 -- the moves made plus the lower bound
 abbrev pub sum : {P : Type 0} → Node P → ℕ
@@ -33,7 +33,7 @@ pub record Before {P : Type 0} (a : Node P) (i : ℕ) (b : Node P) (j : ℕ) : T
   pub earlier : sum a ≡ sum b → a.depth ≡ b.depth → i ≤ j
 
 -- the node that a step takes, and its place
-pub record Taken {P : Type 0} (nodes : List (Node P)) (place : ℕ) (node : Node P) : Type 0 where
+pub record IsTaken {P : Type 0} (nodes : List (Node P)) (place : ℕ) (node : Node P) : Type 0 where
   pub there : slice_get nodes place ≡ Some node
   pub is_open : node.is_open ≡ true
   pub first : (j : ℕ) (other : Node P) → slice_get nodes j ≡ Some other → other.is_open ≡ true → Before node place other j

@@ -10,22 +10,22 @@ use Rattle.search_theory.specs.Steps.{State, Step}
 use Rattle.search_theory.specs.Calls.{Search, new_search, Call, opening, advance, asking, recital, Advances, Recites, RecitesWay, Run}
 
 -- the steps that the advances answered
-abbrev pub answered : List Call → ℕ
-answered [] = 0
-answered (opening _ ∷ calls) = answered calls
-answered (advance _ (Ok a) ∷ calls) = a.steps + answered calls
-answered (advance _ (Err _) ∷ calls) = answered calls
-answered (asking _ ∷ calls) = answered calls
-answered (recital _ _ _ ∷ calls) = answered calls
+abbrev pub total_steps : List Call → ℕ
+total_steps [] = 0
+total_steps (opening _ ∷ calls) = total_steps calls
+total_steps (advance _ (Ok a) ∷ calls) = a.steps + total_steps calls
+total_steps (advance _ (Err _) ∷ calls) = total_steps calls
+total_steps (asking _ ∷ calls) = total_steps calls
+total_steps (recital _ _ _ ∷ calls) = total_steps calls
 
 -- the budgets of the advances that were not refused
-abbrev pub granted : List Call → ℕ
-granted [] = 0
-granted (opening _ ∷ calls) = granted calls
-granted (advance budget (Ok _) ∷ calls) = budget + granted calls
-granted (advance _ (Err _) ∷ calls) = granted calls
-granted (asking _ ∷ calls) = granted calls
-granted (recital _ _ _ ∷ calls) = granted calls
+abbrev pub total_budget : List Call → ℕ
+total_budget [] = 0
+total_budget (opening _ ∷ calls) = total_budget calls
+total_budget (advance budget (Ok _) ∷ calls) = budget + total_budget calls
+total_budget (advance _ (Err _) ∷ calls) = total_budget calls
+total_budget (asking _ ∷ calls) = total_budget calls
+total_budget (recital _ _ _ ∷ calls) = total_budget calls
 
 module _ {P : Type 0} (m : Meaning P) where
   -- what holds of an opened search that calls for a puzzle led to
@@ -44,8 +44,8 @@ module _ {P : Type 0} (m : Meaning P) where
     -- table full: more positions can be reached than there are places
     pub full : t.verdict ≡ TableFull → CanReach m.game (s.places + 1)
     -- the steps are those that the advances answered, and while it runs those that they were granted
-    pub counted : t.steps ≡ answered calls
-    pub spent : t.verdict ≡ Running → t.steps ≡ granted calls
+    pub counted : t.steps ≡ total_steps calls
+    pub spent : t.verdict ≡ Running → t.steps ≡ total_budget calls
     -- the positions that are held: all different, each of them reached, at most one for each place, and one and M for each step
     pub reached : (i : ℕ) (node : Node P) → slice_get t.nodes i ≡ Some node → Reached m.game node.position
     pub distinct : Distinct (map (λ (n : Node P). n.position) t.nodes)

@@ -3,7 +3,7 @@ use Rattle.std.specs.Prelude.{◌≡◌, ℕ, suc, ◌+◌, ◌<◌, ◌≤◌, 
 use Rattle.puzzle.specs.Meaning.{Meaning}
 use Rattle.search_theory.specs.declared.Verdict.{Verdict}
 use Rattle.search_theory.specs.declared.Verdict.TheVariants.{Running, Solved, Unsolvable, TableFull}
-use Rattle.search_theory.specs.Nodes.{Node, closed, reached_again, Taken, NoneOpen, IsNew}
+use Rattle.search_theory.specs.Nodes.{Node, closed_node, nearer_node, IsTaken, NoneOpen, IsNew}
 
 -- the nodes in the order in which they were stored, the verdict, and how many steps were taken
 pub record State (P : Type 0) : Type 0 where
@@ -32,7 +32,7 @@ module _ {P : Type 0} (m : Meaning P) (capacity : ℕ) where
           → node.depth ≤ taken.depth + 1 → new ≡ old → MovePlayed number old new
       -- a stored result that was reached with more moves takes the smaller number and is open again
       nearer : (q : P) (floor j : ℕ) (node : Node P) → m.game.move taken.position number ≡ Some q → m.lower_bound q ≡ Some floor → slice_get old j ≡ Some node → node.position ≡ q
-          → taken.depth + 1 < node.depth → new ≡ slice_set old j (reached_again node (taken.depth + 1) place number) → MovePlayed number old new
+          → taken.depth + 1 < node.depth → new ≡ slice_set old j (nearer_node node (taken.depth + 1) place number) → MovePlayed number old new
       -- a new one is stored if a place is free
       stored : (q : P) (floor : ℕ) → m.game.move taken.position number ≡ Some q → IsNew old q → m.lower_bound q ≡ Some floor → length old < capacity
           → new ≡ old ++ (new_node q (taken.depth + 1) place number floor ∷ []) → MovePlayed number old new
@@ -59,13 +59,13 @@ module _ {P : Type 0} (m : Meaning P) (capacity : ℕ) where
   -- One step of a running search. The node that is taken is finished, and the verdict is its moves; or it is closed and
   -- all moves are played from it in order; or one of them finds the table full.
   pub data Step (old new : State P) : Type 0 where
-    finishes : (place : ℕ) (node : Node P) → old.verdict ≡ Running → Taken old.nodes place node → m.game.finished node.position ≡ true
+    finishes : (place : ℕ) (node : Node P) → old.verdict ≡ Running → IsTaken old.nodes place node → m.game.finished node.position ≡ true
         → new ≡ state old.nodes (Solved node.depth) (old.steps + 1) → Step old new
-    expands : (place : ℕ) (node : Node P) (nodes : List (Node P)) (verdict : Verdict) → old.verdict ≡ Running → Taken old.nodes place node
-        → m.game.finished node.position ≡ false → MovesPlayed place node (slice_set old.nodes place (closed node)) m.game.count nodes
+    expands : (place : ℕ) (node : Node P) (nodes : List (Node P)) (verdict : Verdict) → old.verdict ≡ Running → IsTaken old.nodes place node
+        → m.game.finished node.position ≡ false → MovesPlayed place node (slice_set old.nodes place (closed_node node)) m.game.count nodes
         → GoesOn nodes verdict → new ≡ state nodes verdict (old.steps + 1) → Step old new
-    overflows : (place number : ℕ) (node : Node P) (nodes : List (Node P)) → old.verdict ≡ Running → Taken old.nodes place node
-        → m.game.finished node.position ≡ false → MovesPlayed place node (slice_set old.nodes place (closed node)) number nodes
+    overflows : (place number : ℕ) (node : Node P) (nodes : List (Node P)) → old.verdict ≡ Running → IsTaken old.nodes place node
+        → m.game.finished node.position ≡ false → MovesPlayed place node (slice_set old.nodes place (closed_node node)) number nodes
         → number < m.game.count → Overflows place node number nodes → new ≡ state nodes TableFull (old.steps + 1) → Step old new
 
   -- so many steps, one after another
@@ -74,5 +74,5 @@ module _ {P : Type 0} (m : Meaning P) (capacity : ℕ) where
     next : {n : ℕ} {mid new : State P} → Steps old n mid → Step mid new → Steps old (suc n) new
 
   -- The start is stored with no moves made, and is open. If it is dead, nothing is stored, and there is no way.
-  abbrev pub begun : State P
-  begun = elim (m.lower_bound m.game.start) [ Some floor ↦ state (new_node m.game.start 0 0 0 floor ∷ []) Running 0 | None ↦ state [] Unsolvable 0 ]
+  abbrev pub first_state : State P
+  first_state = elim (m.lower_bound m.game.start) [ Some floor ↦ state (new_node m.game.start 0 0 0 floor ∷ []) Running 0 | None ↦ state [] Unsolvable 0 ]

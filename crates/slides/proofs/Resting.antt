@@ -1,27 +1,16 @@
 -- Where one comes to rest: the steps that are counted and the passed cells say the same. Assumes nothing.
-use Rattle.std.proofs.Common.{◌≡◌, ℕ, zero, suc, ◌+◌, ◌*◌, ◌<◌, ◌≤◌, Bool, true, false, not, cond, eqb, List, [], ◌∷◌, length, Some, None, Option, sym, refl, ap, ◌∙◌, subst, ⊎_elim, arith}
+use Rattle.std.proofs.Common.{◌≡◌, ℕ, zero, suc, ◌+◌, ◌*◌, ◌<◌, ◌≤◌, Bool, true, false, cond, List, [], ◌∷◌, length, Some, None, Option, sym, refl, ap, ◌∙◌, subst, ⊎_elim, arith}
 use mathlib.Core.Path.{fun_ext}
-use Rattle.std.specs.Bool.{then_some}
-use Rattle.std.proofs.lemmas.Bool.{both_ways, cases_lt, cond-false, eqb-false, ne_eqb}
+use Rattle.std.proofs.lemmas.Bool.{both_ways, cases_lt}
 use Rattle.grid.specs.declared.Direction.{Direction}
 use Rattle.grid.specs.Grid.{neighbour}
 use Rattle.grid.proofs.Laws.{neighbour_inside}
-use Rattle.slides.specs.Slides.{next, rest, slid, Passes, stays, goes, Slides, SlidesExactly}
+use Rattle.slides.specs.Slides.{free_neighbour, cell_after, rest_cell, Passes, stays, goes, Stops, RestsAt, Slides, RestsExactly, SlidesExactly}
 use Rattle.slides.proofs.Ahead.{ahead, ahead_few, ahead_less, from_inside}
 
 module _ (w h : ℕ) (blocked : ℕ → Bool) (d : Direction) where
-  -- one cannot step on
-  abbrev Stops : ℕ → Type 0
-  Stops t = (n : ℕ) → neighbour w h t d ≡ Some n → blocked n ≡ true
-
-  -- free cells are passed, or none, up to one that one cannot step on from
-  record Settles (c t : ℕ) : Type 0 where
-    passed : List ℕ
-    free : Passes w h blocked d c passed t
-    stop : Stops t
-
-  -- what the next cell says of its neighbours, and what gives it
-  next_some : (c n : ℕ) → next w h blocked d c ≡ Some n → (neighbour w h c d ≡ Some n) × (blocked n ≡ false)
+  -- what a free next cell says of the neighbour, and what gives it
+  next_some : (c n : ℕ) → free_neighbour w h blocked d c ≡ Some n → (neighbour w h c d ≡ Some n) × (blocked n ≡ false)
   next_some c n e = by (neighbour w h c d) refl e
     where
       by_blocked : (m : ℕ) (b : Bool) → neighbour w h c d ≡ Some m → blocked m ≡ b → ◌≡◌ {A = Option ℕ} (cond b None (Some m)) (Some n) → (neighbour w h c d ≡ Some n) × (blocked n ≡ false)
@@ -32,29 +21,29 @@ module _ (w h : ℕ) (blocked : ℕ → Bool) (d : Direction) where
       by (Some m) at e = by_blocked m (blocked m) at refl e
       by None at e = cc
 
-  next_free : (c n : ℕ) → neighbour w h c d ≡ Some n → blocked n ≡ false → next w h blocked d c ≡ Some n
+  next_free : (c n : ℕ) → neighbour w h c d ≡ Some n → blocked n ≡ false → free_neighbour w h blocked d c ≡ Some n
   next_free c n at free = cc
 
-  next_none : (c : ℕ) → next w h blocked d c ≡ None → Stops c
+  next_none : (c : ℕ) → free_neighbour w h blocked d c ≡ None → Stops w h blocked d c
   next_none c e n at = by (blocked n) refl
     where
       by : (b : Bool) → blocked n ≡ b → b ≡ true
       by true shut = refl
       by false free = let on = next_free c n at free in cc
 
-  next_stop : (c : ℕ) → Stops c → next w h blocked d c ≡ None
-  next_stop c stop = by (next w h blocked d c) refl
+  next_stop : (c : ℕ) → Stops w h blocked d c → free_neighbour w h blocked d c ≡ None
+  next_stop c stop = by (free_neighbour w h blocked d c) refl
     where
-      by : (o : Option ℕ) → next w h blocked d c ≡ o → o ≡ None
+      by : (o : Option ℕ) → free_neighbour w h blocked d c ≡ o → o ≡ None
       by (Some n) e = let on = next_some c n e in absurd (both_ways (blocked n) on.1 (stop n on.0))
       by None e = refl
 
   -- as many steps as there are cells ahead lead to the last one
-  settles_by : (k c : ℕ) → ahead w h c d ≤ k → Settles c (rest w h blocked d k c)
+  settles_by : (k c : ℕ) → ahead w h c d ≤ k → RestsAt w h blocked d c (cell_after w h blocked d k c)
   settles_by zero c few = record { passed = []; free = stays; stop = λ n e. let less = ahead_less w h c d n e in absurd (omega arith) }
-  settles_by (suc k) c few = by (next w h blocked d c) refl (settles_by k)
+  settles_by (suc k) c few = by (free_neighbour w h blocked d c) refl (settles_by k)
     where
-      by : (o : Option ℕ) → next w h blocked d c ≡ o → ((n : ℕ) → ahead w h n d ≤ k → Settles n (rest w h blocked d k n)) → Settles c (elim o [ Some n ↦ rest w h blocked d k n | None ↦ c ])
+      by : (o : Option ℕ) → free_neighbour w h blocked d c ≡ o → ((n : ℕ) → ahead w h n d ≤ k → RestsAt w h blocked d n (cell_after w h blocked d k n)) → RestsAt w h blocked d c (elim o [ Some n ↦ cell_after w h blocked d k n | None ↦ c ])
       by (Some n) e more =
           let on = next_some c n e in
           let less = ahead_less w h c d n on.0 in
@@ -63,12 +52,12 @@ module _ (w h : ℕ) (blocked : ℕ → Bool) (d : Direction) where
       by None e more = record { passed = []; free = stays; stop = next_none c e }
 
   -- who passes cells and then stops rests there, after at least so many steps
-  rests_by : (k c t : ℕ) (ns : List ℕ) → Passes w h blocked d c ns t → Stops t → length ns ≤ k → rest w h blocked d k c ≡ t
+  rests_by : (k c t : ℕ) (ns : List ℕ) → Passes w h blocked d c ns t → Stops w h blocked d t → length ns ≤ k → cell_after w h blocked d k c ≡ t
   rests_by zero c t [] stays stop few = refl
-  rests_by (suc k) c t [] stays stop few = ap (λ o. elim o [ Some n ↦ rest w h blocked d k n | None ↦ c ]) (next_stop c stop)
+  rests_by (suc k) c t [] stays stop few = ap (λ o. elim o [ Some n ↦ cell_after w h blocked d k n | None ↦ c ]) (next_stop c stop)
   rests_by zero c t (n ∷ ns) (goes e f p) stop few = absurd (omega arith)
   rests_by (suc k) c t (n ∷ ns) (goes e f p) stop few =
-      ap (λ o. elim o [ Some m ↦ rest w h blocked d k m | None ↦ c ]) (next_free c n e f) ∙ rests_by k n t ns p stop (omega arith)
+      ap (λ o. elim o [ Some m ↦ cell_after w h blocked d k m | None ↦ c ]) (next_free c n e f) ∙ rests_by k n t ns p stop (omega arith)
 
   -- as many cells are passed as there are less ahead
   passes_ahead : (c t : ℕ) (ns : List ℕ) → Passes w h blocked d c ns t → length ns + ahead w h t d ≡ ahead w h c d
@@ -83,46 +72,34 @@ module _ (w h : ℕ) (blocked : ℕ → Bool) (d : Direction) where
       omega (arith, passes_ahead c t (n ∷ ns) (goes e f p))
 
   -- w + h steps are enough
-  rests_at : (c t : ℕ) (ns : List ℕ) → Passes w h blocked d c ns t → Stops t → rest w h blocked d (w + h) c ≡ t
+  rests_at : (c t : ℕ) (ns : List ℕ) → Passes w h blocked d c ns t → Stops w h blocked d t → rest_cell w h blocked d c ≡ t
   rests_at c t ns p stop = rests_by (w + h) c t ns p stop (passes_few c t ns p)
 
-  stays_there : (c : ℕ) → Stops c → rest w h blocked d (w + h) c ≡ c
+  stays_there : (c : ℕ) → Stops w h blocked d c → rest_cell w h blocked d c ≡ c
   stays_there c stop = rests_at c c [] stays stop
 
-  -- each cell settles where one comes to rest
-  settles : (c : ℕ) → Settles c (rest w h blocked d (w + h) c)
+  -- from each cell one comes to rest there
+  settles : (c : ℕ) → RestsAt w h blocked d c (rest_cell w h blocked d c)
   settles c =
       ⊎_elim (λ on. settles_by (w + h) c (ahead_few w h c d on))
       (λ off.
-      let stop : Stops c = λ n e. let on = from_inside w h c d n e in absurd (omega arith) in
-      subst (Settles c) (sym (stays_there c stop)) (record { passed = []; free = stays; stop = stop }))
+      let stop : Stops w h blocked d c = λ n e. let on = from_inside w h c d n e in absurd (omega arith) in
+      subst (RestsAt w h blocked d c) (sym (stays_there c stop)) (record { passed = []; free = stays; stop = stop }))
       (cases_lt c (w * h))
 
   -- the loop's steps
 
-  pub step_less : (c n : ℕ) → next w h blocked d c ≡ Some n → ahead w h n d < ahead w h c d
+  pub step_less : (c n : ℕ) → free_neighbour w h blocked d c ≡ Some n → ahead w h n d < ahead w h c d
   step_less c n e = omega (arith, ahead_less w h c d n (next_some c n e).0)
 
-  pub step_on : (c n : ℕ) → next w h blocked d c ≡ Some n → rest w h blocked d (w + h) n ≡ rest w h blocked d (w + h) c
+  pub step_on : (c n : ℕ) → free_neighbour w h blocked d c ≡ Some n → rest_cell w h blocked d n ≡ rest_cell w h blocked d c
   step_on c n e =
       let on = next_some c n e in
       let s = settles n in
       sym (rests_at c _ (n ∷ s.passed) (goes on.0 on.1 s.free) s.stop)
 
-  pub step_last : (c : ℕ) → next w h blocked d c ≡ None → rest w h blocked d (w + h) c ≡ c
+  pub step_last : (c : ℕ) → free_neighbour w h blocked d c ≡ None → rest_cell w h blocked d c ≡ c
   step_last c e = stays_there c (next_none c e)
-
-  -- the answer from where one rests
-
-  pub slid_rested : (c t : ℕ) → rest w h blocked d (w + h) c ≡ t → slid w h blocked d c ≡ then_some (not (eqb t c)) t
-  slid_rested c t at = ap (λ r. cond (eqb r c) None (Some r)) at ∙ by (eqb t c)
-    where
-      by : (back : Bool) → cond back None (Some t) ≡ then_some (not back) t
-      by true = refl
-      by false = refl
-
-  slid_away : (c t : ℕ) → rest w h blocked d (w + h) c ≡ t → (t ≡ c → ⊥) → slid w h blocked d c ≡ Some t
-  slid_away c t at apart = cond-false _ None (Some _) (ne_eqb _ c (λ back. apart (sym at ∙ back))) ∙ ap Some at
 
   -- one is back on the first cell only before the first step
   passes_some : (c t : ℕ) (ns : List ℕ) → Passes w h blocked d c ns t → (t ≡ c → ⊥) → 0 < length ns
@@ -138,36 +115,29 @@ module _ (w h : ℕ) (blocked : ℕ → Bool) (d : Direction) where
   passes_last c t (n ∷ []) (goes e f stays) some = (neighbour_inside w h c d n e, f)
   passes_last c t (n ∷ m ∷ ms) (goes e f p) some = passes_last n t (m ∷ ms) p (omega arith)
 
-  -- both directions of the equivalence
-  slid_slides : (c t : ℕ) → slid w h blocked d c ≡ Some t → Slides w h blocked d c t
-  slid_slides c t e = by (rest w h blocked d (w + h) c) (eqb (rest w h blocked d (w + h) c) c) (settles c) refl e
-    where
-      by : (r : ℕ) (b : Bool) → Settles c r → eqb r c ≡ b → ◌≡◌ {A = Option ℕ} (cond b None (Some r)) (Some t) → Slides w h blocked d c t
-      by r true s back e = cc
-      by r false s away e =
-          let same : r ≡ t = cc in
-          subst (Slides w h blocked d c) same (record {
-            passed = s.passed;
-            free = s.free;
-            some = passes_some c r s.passed s.free (eqb-false r c away);
-            stop = s.stop;
-          })
-
-  slides_slid : (c t : ℕ) → Slides w h blocked d c t → slid w h blocked d c ≡ Some t
-  slides_slid c t s =
-      slid_away c t (rests_at c t s.passed s.free s.stop) (passes_other c t s.passed s.free s.some)
-
   -- for callers
 
+  rest_rests : (c t : ℕ) → rest_cell w h blocked d c ≡ t → RestsAt w h blocked d c t
+  rest_rests c t e = subst (RestsAt w h blocked d c) e (settles c)
+
+  pub rests_exactly : (c : ℕ) → RestsExactly w h blocked d c
+  rests_exactly c t = (rest_rests c t, λ r. rests_at c t r.passed r.free r.stop)
+
+  rest_slides : (c t : ℕ) → rest_cell w h blocked d c ≡ t → (t ≡ c → ⊥) → Slides w h blocked d c t
+  rest_slides c t e apart =
+      let r = rest_rests c t e in
+      record { passed = r.passed; free = r.free; some = passes_some c t r.passed r.free apart; stop = r.stop }
+
   pub slides_exactly : (c : ℕ) → SlidesExactly w h blocked d c
-  slides_exactly c t = (slid_slides c t, slides_slid c t)
+  slides_exactly c t = (
+    λ e. rest_slides c t e.0 e.1,
+    λ s. (rests_at c t s.passed s.free s.stop, passes_other c t s.passed s.free s.some),
+  )
 
-  pub slid_inside : (c t : ℕ) → slid w h blocked d c ≡ Some t → t < w * h
-  slid_inside c t e = let s = slid_slides c t e in (passes_last c t s.passed s.free s.some).0
+  -- where one slides to is a free cell of the board
+  pub rest_on_free : (c t : ℕ) → rest_cell w h blocked d c ≡ t → (t ≡ c → ⊥) → (t < w * h) × (blocked t ≡ false)
+  rest_on_free c t e apart = let s = rest_slides c t e apart in passes_last c t s.passed s.free s.some
 
-  pub slid_free : (c t : ℕ) → slid w h blocked d c ≡ Some t → blocked t ≡ false
-  slid_free c t e = let s = slid_slides c t e in (passes_last c t s.passed s.free s.some).1
-
--- a slide depends only on which cells are blocked
-pub slid_same : (w h : ℕ) (f g : ℕ → Bool) (d : Direction) (c : ℕ) → ((k : ℕ) → f k ≡ g k) → slid w h f d c ≡ slid w h g d c
-slid_same w h f g d c same = ap (λ b. slid w h b d c) (fun_ext same)
+-- where one rests depends only on which cells are blocked
+pub rest_same : (w h : ℕ) (f g : ℕ → Bool) (d : Direction) (c : ℕ) → ((k : ℕ) → f k ≡ g k) → rest_cell w h f d c ≡ rest_cell w h g d c
+rest_same w h f g d c same = ap (λ b. rest_cell w h b d c) (fun_ext same)

@@ -10,9 +10,9 @@ bit n k = n / 2 ^ k % 2 == 1
 unfoldable pub has : CellSet → ℕ → Bool
 has s cell = cond (nat_lt cell 256) (bit (slice_index s.words (cell / 64)) (cell % 64)) false
 
-abbrev pub Empty : CellSet → Type 0
-Empty s = (k : ℕ) → has s k ≡ false
+abbrev pub IsEmpty : CellSet → Type 0
+IsEmpty s = (k : ℕ) → has s k ≡ false
 
 -- the same set with one cell more
-abbrev pub Inserted : ℕ → CellSet → CellSet → Type 0
-Inserted cell s t = (k : ℕ) → has t k ≡ (k == cell || has s k)
+abbrev pub Inserts : ℕ → CellSet → CellSet → Type 0
+Inserts cell s t = (k : ℕ) → has t k ≡ (k == cell || has s k)

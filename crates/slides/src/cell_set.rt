@@ -1,5 +1,5 @@
 ghost use Rattle.std.specs.Prelude.{◌≡◌};
-ghost use Rattle.slides.specs.Sets.{has, Empty, Inserted};
+ghost use Rattle.slides.specs.Sets.{has, IsEmpty, Inserts};
 
 /// The bits of a word.
 const WORD_BITS: usize = 64;
@@ -15,7 +15,7 @@ pub struct CellSet {
 
 /// The set without cells.
 impl Default for CellSet {
-    ghost is_default = { Empty };
+    ghost is_default = { IsEmpty };
 
     fn default() -> CellSet {
         CellSet { words: [0; WORDS] }
@@ -25,7 +25,7 @@ impl Default for CellSet {
 impl CellSet {
     /// Puts a cell into the set.
     pub fn insert(&mut self, cell: u8)
-        ensures { Inserted cell self.old self.new }
+        ensures { Inserts cell self.old self.new }
     {
         let cell = usize::from(cell);
         self.words[cell / WORD_BITS] |= 1 << (cell % WORD_BITS);

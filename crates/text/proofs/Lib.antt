@@ -5,6 +5,10 @@ pub mod Runs
 pub mod Lines
 pub mod Texts
 pub mod Scanning
-pub mod Reading
 pub mod Taking
+pub mod LevelReading
 pub mod Trying
+pub mod FormWords
+pub mod FormLaws
+pub mod BracketLaws
+pub mod Pens

@@ -12,35 +12,35 @@ use Rattle.text.proofs.Whole.{whole_append, whole_digits}
 use Rattle.std.proofs.lemmas.List.Sums.{prefix_len-le-length}
 use Rattle.text.proofs.Cases.{never, parts}
 use Rattle.text.specs.declared.line.Line.{Line}
-use Rattle.text.specs.Lines.{split, before, in_line, OneLine, line_end, line_at, told, bytes, join_lines, Reading, read_lines}
+use Rattle.text.specs.Lines.{split, with_byte_before, in_line, OneLine, line_end, line_at, line_value, bytes, join_lines, Reading, read_lines}
 
 -- parts of one line make one line
 pub one_line_append : (a b : List ℕ) → OneLine a → OneLine b → OneLine (a ++ b)
 one_line_append = whole_append in_line
 
+pub digit_in_line : (c : ℕ) → is_ascii_digit c ≡ true → in_line c ≡ true
+digit_in_line c digit = grind (arith, nat_tests)
+
 pub one_line_decimal : (n : ℕ) → n < 2 ^ 64 → OneLine (decimal n)
-one_line_decimal n h = whole_digits in_line in_line_lem (decimal n) (digits_decimal own n h)
-  where
-    in_line_lem : (c : ℕ) → is_ascii_digit c ≡ true → in_line c ≡ true
-    in_line_lem c digit = grind (arith, nat_tests)
+one_line_decimal n h = whole_digits in_line digit_in_line (decimal n) (digits_decimal own n h)
 
 -- a text that begins with a line
 pub split_line : (l rest : List ℕ) → OneLine l → split (l ++ (10 ∷ rest)) ≡ l ∷ split rest
 split_line [] rest one = refl
 split_line (c ∷ l) rest one = by (eqb c 10) one (split_line l rest)
   where
-    by : (b : Bool) → cond (not b) (1 + prefix_len in_line l) 0 ≡ suc (length l) → (OneLine l → split (l ++ (10 ∷ rest)) ≡ l ∷ split rest) → cond b ([] ∷ split (l ++ (10 ∷ rest))) (before c (split (l ++ (10 ∷ rest)))) ≡ (c ∷ l) ∷ split rest
+    by : (b : Bool) → cond (not b) (1 + prefix_len in_line l) 0 ≡ suc (length l) → (OneLine l → split (l ++ (10 ∷ rest)) ≡ l ∷ split rest) → cond b ([] ∷ split (l ++ (10 ∷ rest))) (with_byte_before c (split (l ++ (10 ∷ rest)))) ≡ (c ∷ l) ∷ split rest
     by true h more = absurd (omega arith)
-    by false h more = ap (before c) (more (omega arith))
+    by false h more = ap (with_byte_before c) (more (omega arith))
 
 -- a text with no line end
 pub split_last : (l : List ℕ) → OneLine l → split l ≡ l ∷ []
 split_last [] one = refl
 split_last (c ∷ l) one = by (eqb c 10) one (split_last l)
   where
-    by : (b : Bool) → cond (not b) (1 + prefix_len in_line l) 0 ≡ suc (length l) → (OneLine l → split l ≡ l ∷ []) → cond b ([] ∷ split l) (before c (split l)) ≡ (c ∷ l) ∷ []
+    by : (b : Bool) → cond (not b) (1 + prefix_len in_line l) 0 ≡ suc (length l) → (OneLine l → split l ≡ l ∷ []) → cond b ([] ∷ split l) (with_byte_before c (split l)) ≡ (c ∷ l) ∷ []
     by true h more = absurd (omega arith)
-    by false h more = ap (before c) (more (omega arith))
+    by false h more = ap (with_byte_before c) (more (omega arith))
 
 -- lines that are joined are found again
 pub split_join : (ls : List (List ℕ)) → All OneLine ls → split (join_lines ls) ≡ ls ++ ([] ∷ [])
@@ -55,10 +55,10 @@ split_front : (r : List ℕ) → prefix_len in_line r < length r → split r ≡
 split_front [] h = absurd (omega arith)
 split_front (c ∷ r) h = by (eqb c 10) h (split_front r)
   where
-    by : (b : Bool) → cond (not b) (1 + prefix_len in_line r) 0 < suc (length r) → (prefix_len in_line r < length r → split r ≡ take (prefix_len in_line r) r ∷ split (drop (prefix_len in_line r + 1) r)) → cond b ([] ∷ split r) (before c (split r)) ≡ take (cond (not b) (1 + prefix_len in_line r) 0) (c ∷ r) ∷ split (drop (cond (not b) (1 + prefix_len in_line r) 0 + 1) (c ∷ r))
+    by : (b : Bool) → cond (not b) (1 + prefix_len in_line r) 0 < suc (length r) → (prefix_len in_line r < length r → split r ≡ take (prefix_len in_line r) r ∷ split (drop (prefix_len in_line r + 1) r)) → cond b ([] ∷ split r) (with_byte_before c (split r)) ≡ take (cond (not b) (1 + prefix_len in_line r) 0) (c ∷ r) ∷ split (drop (cond (not b) (1 + prefix_len in_line r) 0 + 1) (c ∷ r))
     by true h more = refl
     by false h more =
-        ap (before c) (more (omega arith))
+        ap (with_byte_before c) (more (omega arith))
         ∙ ap (λ j. take j (c ∷ r) ∷ split (drop (prefix_len in_line r + 1) r)) (sym (one-add (prefix_len in_line r)))
         ∙ ap (λ j. take (1 + prefix_len in_line r) (c ∷ r) ∷ split (drop j (c ∷ r))) (suc_form (prefix_len in_line r))
 
@@ -86,7 +86,7 @@ module _ (t : List ℕ) (at : ℕ) where
     pub whole : bytes l ≡ drop at (take (line_end t at) t)
     pub long : length l.text.now ≡ line_end t at
 
-  pub line_found : (l : Line) → told (Some l) ≡ line_at t at → Found l
+  pub line_found : (l : Line) → line_value (Some l) ≡ line_at t at → Found l
   line_found l e = by (ltb (line_end t at) (length t)) refl e
     where
       by : (b : Bool) → ltb (line_end t at) (length t) ≡ b → ◌≡◌ {A = Option (List ℕ × ℕ)} (Some (l.text.now, l.at)) (cond b (Some (take (line_end t at) t, at)) None) → Found l
@@ -112,9 +112,9 @@ pub some_part : (t : List ℕ) → (l : List ℕ) × (ls : List (List ℕ)) × (
 some_part [] = ([], [], refl)
 some_part (c ∷ t) = by (eqb c 10) (some_part t)
   where
-    by : (b : Bool) → ((l : List ℕ) × (ls : List (List ℕ)) × (split t ≡ l ∷ ls)) → (l : List ℕ) × (ls : List (List ℕ)) × (cond b ([] ∷ split t) (before c (split t)) ≡ l ∷ ls)
+    by : (b : Bool) → ((l : List ℕ) × (ls : List (List ℕ)) × (split t ≡ l ∷ ls)) → (l : List ℕ) × (ls : List (List ℕ)) × (cond b ([] ∷ split t) (with_byte_before c (split t)) ≡ l ∷ ls)
     by true more = ([], split t, refl)
-    by false more = (c ∷ more.0, more.1, ap (before c) more.2)
+    by false more = (c ∷ more.0, more.1, ap (with_byte_before c) more.2)
 
 -- a reader of lines, one line on
 module _ {S E : Type 0} (take-line : S → ℕ → List ℕ → Result S E) where

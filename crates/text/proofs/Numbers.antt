@@ -6,13 +6,13 @@ use Rattle.std.proofs.lemmas.Fmt.{decimal_by_steps, first_decimal, decimal_nonem
 use Rattle.std.proofs.lemmas.Str.Parse.{IsNumeralModel, numerals_by_fold}
 use Rattle.std.proofs.lemmas.Bool.{cases_eq}
 use Rattle.std.proofs.lemmas.Bool.Decides.{nat_tests}
-use Rattle.text.specs.Numbers.{digit, onto, digits_after, read_number, NumbersReadBack}
+use Rattle.text.specs.Numbers.{digit, with_digit, digits_after, read_number, NumbersReadBack}
 
 abbrev goes : List ℕ → Option ℕ → Option ℕ
 goes rest o = elim o [ Some m ↦ digits_after m rest | None ↦ None ]
 
 -- one digit more
-on : (n d : ℕ) → n < 1000000 → d < 10 → onto n (digit (48 + d)) ≡ Some (n * 10 + d)
+on : (n d : ℕ) → n < 1000000 → d < 10 → with_digit n (digit (48 + d)) ≡ Some (n * 10 + d)
 on n d small one = grind (arith, nat_tests)
 
 digits_back : (n : ℕ) → n < 10000000 → (rest : List ℕ) → digits_after 0 (decimal n ++ rest) ≡ digits_after n rest
@@ -53,13 +53,13 @@ record Read (m n : ℕ) (t : List ℕ) : Type 0 where
   number : read_on m t ≡ n
   small : n < 10000000
 
-one_digit : (m c k : ℕ) → onto m (digit c) ≡ Some k → (is_ascii_digit c ≡ true) × (m * 10 + (c - 48) ≡ k) × (k < 10000000)
+one_digit : (m c k : ℕ) → with_digit m (digit c) ≡ Some k → (is_ascii_digit c ≡ true) × (m * 10 + (c - 48) ≡ k) × (k < 10000000)
 one_digit m c k e = (grind (arith, nat_tests), grind (arith, nat_tests), grind (arith, nat_tests))
 
 both : (a b : Bool) → a ≡ true → b ≡ true → a && b ≡ true
 both a b p q = grind (arith, nat_tests)
 
-by : (m n c : ℕ) (cs : List ℕ) → ((k : ℕ) → k < 10000000 → digits_after k cs ≡ Some n → Read k n cs) → (o : Option ℕ) → onto m (digit c) ≡ o → goes cs o ≡ Some n → Read m n (c ∷ cs)
+by : (m n c : ℕ) (cs : List ℕ) → ((k : ℕ) → k < 10000000 → digits_after k cs ≡ Some n → Read k n cs) → (o : Option ℕ) → with_digit m (digit c) ≡ o → goes cs o ≡ Some n → Read m n (c ∷ cs)
 by m n c cs rest (Some k) q e =
     let h = one_digit m c k q in
     let r = rest k h.2 e in
@@ -68,7 +68,7 @@ by m n c cs rest None q e = absurd (let z : ◌≡◌ {A = ℕ} 0 1 = cc in omeg
 
 was : (m n : ℕ) (t : List ℕ) → m < 10000000 → digits_after m t ≡ Some n → Read m n t
 was m n [] h e = let same : m ≡ n = cc in record { digits = refl; number = same; small = omega arith }
-was m n (c ∷ cs) h e = by m n c cs (λ k. was k n cs) (onto m (digit c)) refl e
+was m n (c ∷ cs) h e = by m n c cs (λ k. was k n cs) (with_digit m (digit c)) refl e
 
 -- what is read is a lone zero, or begins with another digit
 pub some : (t : List ℕ) (n : ℕ) → read_number t ≡ Some n → 0 < length t
@@ -96,4 +96,4 @@ only_that t n e =
     (cases_eq (get_or t 0 0) 48)
 
 pub numbers_read_back : NumbersReadBack
-numbers_read_back = record { written = reads_back; only = only_that }
+numbers_read_back = record { all = reads_back; only = only_that }

@@ -7,13 +7,13 @@ use Rattle.std.proofs.lemmas.List.{take-append-drop, take_at, drop_at}
 use Rattle.std.proofs.lemmas.Bool.{cases_eq, cond-true, cond-false, eq-eqb, ne_eqb}
 use Rattle.std.proofs.lemmas.Bool.Decides.{nat_tests}
 use Rattle.text.specs.Numbers.{read_number}
-use Rattle.text.specs.Pieces.{Said, opens, closes, word, number, plain, or_word, of_run, piece_in, spell}
+use Rattle.text.specs.Pieces.{TokenValue, opens, closes, word, number, plain, or_word, of_run, piece_in, spell}
 use Rattle.text.proofs.Cases.{never, parts}
 use Rattle.text.proofs.Numbers.{only_that}
 use Rattle.text.proofs.Whole.{whole_digits}
 
 -- what a piece that was read can be
-abbrev pub Fine : Said → Type 0
+abbrev pub Fine : TokenValue → Type 0
 Fine opens = Unit {0}
 Fine closes = Unit {0}
 Fine (word w) = Unit {0}
@@ -25,21 +25,21 @@ spell_run w (Some n) e = only_that w n e
 spell_run w None e = (refl, tt)
 
 -- a piece and what is left, where the line is known to be both
-joined : (l w : List ℕ) (r s : Said) (left rest : List ℕ) → l ≡ w ++ left → (spell r ≡ w) × Fine r → ◌≡◌ {A = Option (Said × List ℕ)} (Some (r, left)) (Some (s, rest)) → (l ≡ spell s ++ rest) × Fine s
+joined : (l w : List ℕ) (r s : TokenValue) (left rest : List ℕ) → l ≡ w ++ left → (spell r ≡ w) × Fine r → ◌≡◌ {A = Option (TokenValue × List ℕ)} (Some (r, left)) (Some (s, rest)) → (l ≡ spell s ++ rest) × Fine s
 joined l w r s left rest whole spelt e =
     let both = parts r s left rest e in (
       whole ∙ ap (λ x. x ++ left) (sym spelt.0) ∙ ap (λ x. spell x ++ left) both.0 ∙ ap (λ x. spell s ++ x) both.1,
       subst Fine both.0 spelt.1,
     )
 
-run_splits : (l : List ℕ) (s : Said) (rest : List ℕ) (b : Bool) → cond {A = Option (Said × List ℕ)} b None (Some (of_run (take (prefix_len plain l) l), drop (prefix_len plain l) l)) ≡ Some (s, rest) → (l ≡ spell s ++ rest) × Fine s
+run_splits : (l : List ℕ) (s : TokenValue) (rest : List ℕ) (b : Bool) → cond {A = Option (TokenValue × List ℕ)} b None (Some (of_run (take (prefix_len plain l) l), drop (prefix_len plain l) l)) ≡ Some (s, rest) → (l ≡ spell s ++ rest) × Fine s
 run_splits l s rest true e = absurd (never _ e)
 run_splits l s rest false e =
     let w = take (prefix_len plain l) l in
     joined l w (of_run w) s (drop (prefix_len plain l) l) rest (sym (take-append-drop (prefix_len plain l) l)) (spell_run w (read_number w) refl) e
 
 -- the piece at the front of a line is spelled there
-pub piece_splits : (l : List ℕ) (s : Said) (rest : List ℕ) → piece_in l ≡ Some (s, rest) → (l ≡ spell s ++ rest) × Fine s
+pub piece_splits : (l : List ℕ) (s : TokenValue) (rest : List ℕ) → piece_in l ≡ Some (s, rest) → (l ≡ spell s ++ rest) × Fine s
 piece_splits [] s rest e = absurd (never _ e)
 piece_splits (b ∷ bs) s rest e =
     ⊎_elim

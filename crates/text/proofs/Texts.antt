@@ -1,11 +1,13 @@
 -- Texts of printed lines: they are texts, and a text that is read is cut into such lines. Assumes nothing.
-use Rattle.std.proofs.Common.{◌≡◌, ℕ, suc, ◌+◌, ◌-◌, ◌*◌, ◌<◌, ◌≤◌, Bool, true, false, cond, ◌&&◌, eqb, ltb, leb, List, [], ◌∷◌, ◌++◌, length, get_or, take, drop, sym, refl, ap, ◌∙◌, append_assoc, arith}
+use Rattle.std.proofs.Common.{◌≡◌, ℕ, suc, ◌+◌, ◌-◌, ◌*◌, ◌^◌, ◌<◌, ◌≤◌, Bool, true, false, cond, ◌&&◌, eqb, ltb, leb, List, [], ◌∷◌, ◌++◌, length, get_or, take, drop, decimal, sym, refl, ap, ◌∙◌, append_assoc, arith}
 use Rattle.std.specs.List.{All, prefix_len}
-use Rattle.std.proofs.lemmas.List.Elements.{All-nil, All-cons, All-head, All-tail, All-weaker}
+use Rattle.std.proofs.lemmas.Fmt.{decimal_by_steps, length-decimal-le}
+use Rattle.std.proofs.lemmas.List.Elements.{All-nil, All-cons, All-head, All-tail, All-append, All-push, All-weaker}
 use Rattle.std.proofs.lemmas.List.{length-append, length_push, get_or_at, take-append-drop, drop_more, drop_all}
 use Rattle.std.proofs.lemmas.Bool.{cond-true, and_from, and_parts, ltb-true, eqb-true}
 use Rattle.std.proofs.lemmas.Bool.Decides.{nat_tests}
-use Rattle.text.specs.Lines.{text_byte, all_text, is_text, before, split, join_lines, in_line, OneLine}
+use Rattle.text.specs.Lines.{text_byte, all_text, is_text, with_byte_before, split, join_lines, in_line, OneLine}
+use Rattle.text.specs.Forms.{closing, size_line}
 use Rattle.text.proofs.Lines.{some_part}
 
 -- a byte that may stand in a line
@@ -24,10 +26,36 @@ printed_by (b ∷ l) is = let both = and_parts (leb 32 b && leb b 126) _ is in A
     here : (b : ℕ) → leb 32 b && leb b 126 ≡ true → Printed b
     here b is = (grind (arith, nat_tests), grind (arith, nat_tests))
 
+-- what holds of each digit holds of each byte of a number
+pub decimal_each : (P : ℕ → Type 0) → ((d : ℕ) → d < 10 → P (48 + d)) → (n : ℕ) → n < 2 ^ 64 → All P (decimal n)
+decimal_each P digit n fits =
+    decimal_by_steps (λ m ds. All P ds) (λ m small. All-cons P (48 + m) [] (digit m small) (All-nil P))
+    (λ m ds big before. All-push P ds _ before (digit _ (omega arith))) n fits
+
+decimal_printed : (n : ℕ) → n < 2 ^ 64 → All Printed (decimal n)
+decimal_printed = decimal_each Printed (λ d small. (omega arith, omega arith))
+
+pub blank_printed : Printed 32
+blank_printed = (omega arith, omega arith)
+
 -- a line of such bytes that is not too long
 pub record Short (l : List ℕ) : Type 0 where
   pub printed : All Printed l
   pub short : length l ≤ 24
+
+pub short_size : (kw : List ℕ) (w h : ℕ) → All Printed kw → length kw ≤ 16 → w < 100 → h < 100 → Short (size_line kw w h)
+short_size kw w h printed brief hw hh = record {
+  printed =
+      All-cons Printed 40 (kw ++ (32 ∷ (decimal w ++ (32 ∷ decimal h)))) (omega arith, omega arith)
+      (All-append Printed kw (32 ∷ (decimal w ++ (32 ∷ decimal h))) printed
+      (All-cons Printed 32 (decimal w ++ (32 ∷ decimal h)) blank_printed
+      (All-append Printed (decimal w) (32 ∷ decimal h) (decimal_printed w (omega arith)) (All-cons Printed 32 (decimal h) blank_printed (decimal_printed h (omega arith))))));
+  short =
+      omega (arith, length-append kw (32 ∷ (decimal w ++ (32 ∷ decimal h))), length-append (decimal w) (32 ∷ decimal h), length-decimal-le 2 w (omega arith) hw (omega arith), length-decimal-le 2 h (omega arith) hh (omega arith));
+}
+
+pub short_closing : Short closing
+short_closing = record { printed = printed_by closing refl; short = omega arith }
 
 pub leading_all : (p : ℕ → Bool) (l : List ℕ) → All (λ b. p b ≡ true) l → prefix_len p l ≡ length l
 leading_all p [] all = refl
@@ -91,21 +119,21 @@ split_ended : (u : List ℕ) → split (u ++ (10 ∷ [])) ≡ split u ++ ([] ∷
 split_ended [] = refl
 split_ended (b ∷ u) = by (eqb b 10) (split_ended u)
   where
-    by : (t : Bool) → split (u ++ (10 ∷ [])) ≡ split u ++ ([] ∷ []) → cond t ([] ∷ split (u ++ (10 ∷ []))) (before b (split (u ++ (10 ∷ [])))) ≡ cond t ([] ∷ split u) (before b (split u)) ++ ([] ∷ [])
+    by : (t : Bool) → split (u ++ (10 ∷ [])) ≡ split u ++ ([] ∷ []) → cond t ([] ∷ split (u ++ (10 ∷ []))) (with_byte_before b (split (u ++ (10 ∷ [])))) ≡ cond t ([] ∷ split u) (with_byte_before b (split u)) ++ ([] ∷ [])
     by true more = ap (λ x. [] ∷ x) more
     by false more =
         let p = some_part u in
-        ap (before b) more ∙ ap (λ x. before b (x ++ ([] ∷ []))) p.2 ∙ ap (λ x. before b x ++ ([] ∷ [])) (sym p.2)
+        ap (with_byte_before b) more ∙ ap (λ x. with_byte_before b (x ++ ([] ∷ []))) p.2 ∙ ap (λ x. with_byte_before b x ++ ([] ∷ [])) (sym p.2)
 
 join_split : (u : List ℕ) → join_lines (split u) ≡ u ++ (10 ∷ [])
 join_split [] = refl
 join_split (b ∷ u) = by (eqb b 10) (eqb-true b 10) (join_split u)
   where
-    by : (t : Bool) → (t ≡ true → b ≡ 10) → join_lines (split u) ≡ u ++ (10 ∷ []) → join_lines (cond t ([] ∷ split u) (before b (split u))) ≡ b ∷ (u ++ (10 ∷ []))
+    by : (t : Bool) → (t ≡ true → b ≡ 10) → join_lines (split u) ≡ u ++ (10 ∷ []) → join_lines (cond t ([] ∷ split u) (with_byte_before b (split u))) ≡ b ∷ (u ++ (10 ∷ []))
     by true end more = ap (λ x. 10 ∷ x) more ∙ ap (λ x. x ∷ (u ++ (10 ∷ []))) (sym (end refl))
     by false end more =
         let p = some_part u in
-        ap (λ x. join_lines (before b x)) p.2 ∙ ap (λ x. b ∷ join_lines x) (sym p.2) ∙ ap (λ x. b ∷ x) more
+        ap (λ x. join_lines (with_byte_before b x)) p.2 ∙ ap (λ x. b ∷ join_lines x) (sym p.2) ∙ ap (λ x. b ∷ x) more
 
 pub record Cut (t : List ℕ) (ls : List (List ℕ)) : Type 0 where
   pub parts : split t ≡ ls ++ ([] ∷ [])

@@ -16,14 +16,14 @@ abbrev pub is_text : List ℕ → Bool
 is_text t = nat_lt 0 (length t) && (nat_le (length t) 4096 && (slice_index t (length t - 1) == 10 && all_text t))
 
 -- a byte put before the first part
-abbrev pub before : ℕ → List (List ℕ) → List (List ℕ)
-before b [] = []
-before b (l ∷ ls) = (b ∷ l) ∷ ls
+abbrev pub with_byte_before : ℕ → List (List ℕ) → List (List ℕ)
+with_byte_before b [] = []
+with_byte_before b (l ∷ ls) = (b ∷ l) ∷ ls
 
 -- a text cut at its line ends, byte 10: each line that one ends, and last what no line end follows
 abbrev pub split : List ℕ → List (List ℕ)
 split [] = [] ∷ []
-split (b ∷ bs) = cond (b == 10) ([] ∷ split bs) (before b (split bs))
+split (b ∷ bs) = cond (b == 10) ([] ∷ split bs) (with_byte_before b (split bs))
 
 -- lines as a text, each ended by byte 10
 abbrev pub join_lines : List (List ℕ) → List ℕ
@@ -46,9 +46,9 @@ line_end t from = from + prefix_len in_line (drop from t)
 abbrev pub line_at : List ℕ → ℕ → Option (List ℕ × ℕ)
 line_at t from = cond (nat_lt (line_end t from) (length t)) (Some (take (line_end t from) t, from)) None
 
-abbrev pub told : Option Line → Option (List ℕ × ℕ)
-told (Some l) = Some (l.text.now, l.at)
-told None = None
+abbrev pub line_value : Option Line → Option (List ℕ × ℕ)
+line_value (Some l) = Some (l.text.now, l.at)
+line_value None = None
 
 -- the bytes of a line
 abbrev pub bytes : Line → List ℕ
@@ -69,12 +69,12 @@ read_lines take s n [] = Ok (reading s n [])
 read_lines take s n (l ∷ []) = Ok (reading s n l)
 read_lines take s n (l ∷ m ∷ ms) = elim (take s n l) [ Ok t ↦ read_lines take t (n + 1) (m ∷ ms) | Err e ↦ Err e ]
 
--- what is said at the end of a text, where the number is the one that the next line would have
-abbrev pub concluded : {S T E : Type 0} → (ℕ → S → Result T E) → Result (Reading S) E → Result T E
-concluded finish (Ok r) = finish r.line r.state
-concluded finish (Err e) = Err e
+-- what is made of a state at the end of a text, where the number is the one that the next line would have
+abbrev pub end_result : {S T E : Type 0} → (ℕ → S → Result T E) → Result (Reading S) E → Result T E
+end_result finish (Ok r) = finish r.line r.state
+end_result finish (Err e) = Err e
 
 -- a text read from its first line to its end, or refused where the bytes are no text
 abbrev pub read_text : {S T E : Type 0} → (S → ℕ → List ℕ → Result S E) → (ℕ → S → Result T E) → S → E → List ℕ → Result T E
 read_text take finish start strange text =
-    cond (is_text text) (concluded finish (read_lines take start 1 (split text))) (Err strange)
+    cond (is_text text) (end_result finish (read_lines take start 1 (split text))) (Err strange)

@@ -5,14 +5,14 @@ abbrev pub digit : ℕ → Option ℕ
 digit b = cond (nat_le 48 b) (cond (nat_le b 57) (Some (b - 48)) None) None
 
 -- one digit more after n
-abbrev pub onto : ℕ → Option ℕ → Option ℕ
-onto n (Some d) = cond (nat_lt n 1000000) (Some (n * 10 + d)) None
-onto n None = None
+abbrev pub with_digit : ℕ → Option ℕ → Option ℕ
+with_digit n (Some d) = cond (nat_lt n 1000000) (Some (n * 10 + d)) None
+with_digit n None = None
 
 -- what the digits write after n
 abbrev pub digits_after : ℕ → List ℕ → Option ℕ
 digits_after n [] = Some n
-digits_after n (c ∷ cs) = elim (onto n (digit c)) [ Some m ↦ digits_after m cs | None ↦ None ]
+digits_after n (c ∷ cs) = elim (with_digit n (digit c)) [ Some m ↦ digits_after m cs | None ↦ None ]
 
 abbrev pub read_number : List ℕ → Option ℕ
 read_number text =
@@ -21,5 +21,5 @@ read_number text =
 
 -- what is read of a text is n exactly where the text is n in decimal, and n is below ten millions
 pub record NumbersReadBack : Type 0 where
-  pub written : (n : ℕ) → n < 10000000 → read_number (decimal n) ≡ Some n
+  pub all : (n : ℕ) → n < 10000000 → read_number (decimal n) ≡ Some n
   pub only : (t : List ℕ) (n : ℕ) → read_number t ≡ Some n → (decimal n ≡ t) × (n < 10000000)

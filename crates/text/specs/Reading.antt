@@ -15,6 +15,11 @@ NextLine s r t =
     MatchOption r ((parts s ≡ bytes s.left ∷ []) × (t ≡ s))
     (λ x. (x.0 ≡ s.number) × (t.number ≡ s.number + 1) × (parts s ≡ bytes x.1 ∷ parts t))
 
+-- the state that a call left, or its error
+abbrev pub state_after : {S E : Type 0} → Result (Unit {0}) E → S → Result S E
+state_after (Ok _) s = Ok s
+state_after (Err e) s = Err e
+
 -- `read_lines` of `Lines`, where a relation says what a state may make of a line
 abbrev pub ReadsLines : {S E : Type 0} → (S → ℕ → List ℕ → Result S E → Type 0) → S → ℕ → List (List ℕ) → Result (Reading S) E → Type 0
 ReadsLines Takes s n [] r = r ≡ Ok (reading s n [])
@@ -22,16 +27,16 @@ ReadsLines Takes s n (l ∷ []) r = r ≡ Ok (reading s n l)
 ReadsLines {S} {E} Takes s n (l ∷ m ∷ ms) r =
     (o : Result S E) × Takes s n l o × MatchResult o (λ t. ReadsLines Takes t (n + 1) (m ∷ ms) r) (λ e. r ≡ Err e)
 
-abbrev pub told_read : {S E : Type 0} → Result (ReadText S) E → Result (Reading S) E
-told_read (Ok r) = Ok (reading r.reader r.number (bytes r.left))
-told_read (Err e) = Err e
+abbrev pub as_reading : {S E : Type 0} → Result (ReadText S) E → Result (Reading S) E
+as_reading (Ok r) = Ok (reading r.reader r.number (bytes r.left))
+as_reading (Err e) = Err e
 
 -- what a view sees of the states
 module _ {S V E : Type 0} (view : S → V) where
-  abbrev pub seen : Result S E → Result V E
-  seen (Ok s) = Ok (view s)
-  seen (Err e) = Err e
+  abbrev pub map_ok : Result S E → Result V E
+  map_ok (Ok s) = Ok (view s)
+  map_ok (Err e) = Err e
 
-  abbrev pub seen_reading : Result (Reading S) E → Result (Reading V) E
-  seen_reading (Ok r) = Ok (reading (view r.state) r.line r.left)
-  seen_reading (Err e) = Err e
+  abbrev pub map_reading : Result (Reading S) E → Result (Reading V) E
+  map_reading (Ok r) = Ok (reading (view r.state) r.line r.left)
+  map_reading (Err e) = Err e

@@ -1,5 +1,5 @@
 ghost use Rattle.std.specs.Prelude.{◌≡◌};
-ghost use Rattle.text.specs.Lines.{told, line_at, in_line, text_byte, all_text, is_text};
+ghost use Rattle.text.specs.Lines.{line_value, line_at, in_line, text_byte, all_text, is_text};
 
 use super::run::{ByteClass, run_end};
 
@@ -51,7 +51,7 @@ impl ByteClass for InLine {
 
 /// The line that begins at a place, if a line end follows there.
 pub fn next_line<'a>(text: &'a [u8], from: usize) -> Option<Line<'a>>
-    ensures { told result ≡ line_at text.now from }
+    ensures { line_value result ≡ line_at text.now from }
 {
     let end = run_end::<InLine>(text, from);
     (end < text.len()).then(|| Line {

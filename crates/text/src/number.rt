@@ -1,5 +1,5 @@
 ghost use Rattle.std.specs.Prelude.{◌≡◌};
-ghost use Rattle.text.specs.Numbers.{digit, onto, digits_after, read_number, NumbersReadBack};
+ghost use Rattle.text.specs.Numbers.{digit, with_digit, digits_after, read_number, NumbersReadBack};
 
 /// The most that a number may be before its last digit, so that none has more than seven digits.
 const MOST_BEFORE_LAST: u32 = 1_000_000;
@@ -14,7 +14,7 @@ fn digit_of(b: u8) -> Option<u32>
 }
 
 fn with_digit(n: u32, b: u8) -> Option<u32>
-    ensures { result ≡ onto n (digit b) }
+    ensures { result ≡ with_digit n (digit b) }
 {
     let digit = digit_of(b)?;
     (n < MOST_BEFORE_LAST).then(|| n * 10 + digit)

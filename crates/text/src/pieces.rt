@@ -1,6 +1,6 @@
 ghost use Rattle.std.specs.Prelude.{◌≡◌, length, IfSome, ◌==◌};
 ghost use Rattle.text.specs.Lines.{bytes};
-ghost use Rattle.text.specs.Pieces.{said, plain, of_run, piece_in, told_piece, Within};
+ghost use Rattle.text.specs.Pieces.{token_value, plain, of_run, piece_in, piece_value, Within};
 
 use super::line::Line;
 use super::number::read_number;
@@ -34,7 +34,7 @@ impl ByteClass for Plain {
 }
 
 fn token_of<'a>(run: &'a [u8]) -> Token<'a>
-    ensures { said result ≡ of_run run.now }
+    ensures { token_value result ≡ of_run run.now }
 {
     match read_number(run) {
         Some(n) => Token::Number(n),
@@ -59,7 +59,7 @@ impl<'a> Line<'a> {
 
     /// The piece at the front, and what is left after it. There is none at the end and at a blank.
     pub fn piece(self) -> Option<(Piece<'a>, Line<'a>)>
-        ensures says { told_piece result ≡ piece_in (bytes self.entry) }
+        ensures says { piece_value result ≡ piece_in (bytes self.entry) }
         ensures lies { IfSome result (λ x. (x.0.at ≡ self.entry.at) × Within self.entry x.1) }
     {
         let Line { text, at } = self;

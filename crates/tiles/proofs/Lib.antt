@@ -1,4 +1,5 @@
 pub mod Board
 pub mod Walks
 pub mod Empty
-pub mod Sliding
+pub mod Filling
+pub mod LevelText

@@ -1,19 +1,10 @@
--- What the walks over a position's used cells find: the blank, and whether each tile is at home. Assumes nothing.
-use Rattle.std.proofs.Common.{◌≡◌, ℕ, ◌+◌, ◌<◌, ◌≤◌, Bool, ◌&&◌, eqb, List, [], ◌∷◌, length, get_or, take, Some, Decides, count_by, refl, subst, sym, ap, ◌∙◌, zero-add, arith}
+-- What the walks over a position's used cells find: whether each tile is at home, and whether each number comes once.
+-- Assumes nothing.
+use Rattle.std.proofs.Common.{◌≡◌, ℕ, ◌+◌, ◌<◌, Bool, ◌&&◌, eqb, List, [], ◌∷◌, length, get_or, Decides, count_by, refl, subst, sym, ap, ◌∙◌, zero-add, arith}
 use Rattle.std.specs.List.{list_all, enumerate_from, range_with_len}
-use Rattle.std.proofs.lemmas.Bool.{eqb-true}
 use Rattle.std.proofs.lemmas.Bool.Decides.{Decides-at, Decides-like, Decides-by_and, Decides-eqb}
 use Rattle.std.proofs.lemmas.List.FromFn.{length-range_with_len, get_or-range_with_len, length-enumerate_from, get_or-enumerate_from}
-use Rattle.std.proofs.lemmas.List.Quantifiers.{position-Some}
-use Rattle.tiles.specs.Board.{cells, unpacked, blank_of, home, home_from}
-use Rattle.tiles.proofs.Board.{length_unpacked, take_cells, get_or_cells}
-
--- the blank's cell is one of those that were looked at, and holds 0
-pub blank_used : (n p b : ℕ) → n ≤ 16 → blank_of (take n (cells p)) ≡ Some b → (b < n) × (get_or (cells p) b 0 ≡ 0)
-blank_used n p b few e =
-    let at = position-Some (λ t. eqb t 0) (unpacked n p) b 0 (sym (ap blank_of (take_cells n p few)) ∙ e) in
-    let below : b < n = omega (arith, at.0, length_unpacked n p) in
-    (below, get_or_cells n p b few below ∙ eqb-true _ _ at.1)
+use Rattle.tiles.specs.Board.{home_tile, at_home_from}
 
 -- a cell's number, beside what lies there, is the number of one of the cells
 pub listed_below : (ts : List ℕ) (k : ℕ) (c : ℕ × ℕ) → k < length (enumerate_from 0 ts) → c ≡ get_or (enumerate_from 0 ts) k c → c.0 < length ts
@@ -23,9 +14,9 @@ listed_below ts k c h is =
     omega arith
 
 -- whether each tile is at home, asked of the cells with their numbers
-pub home_listed : (n i : ℕ) (ts : List ℕ) → list_all (λ (c : ℕ × ℕ). eqb c.1 (home n c.0)) (enumerate_from i ts) ≡ home_from n i ts
-home_listed n i [] = refl
-home_listed n i (t ∷ ts) = ap (λ b. eqb t (home n i) && b) (home_listed n (i + 1) ts)
+pub at_home_listed : (n i : ℕ) (ts : List ℕ) → list_all (λ (c : ℕ × ℕ). eqb c.1 (home_tile n c.0)) (enumerate_from i ts) ≡ at_home_from n i ts
+at_home_listed n i [] = refl
+at_home_listed n i (t ∷ ts) = ap (λ b. eqb t (home_tile n i) && b) (at_home_listed n (i + 1) ts)
 
 -- a test of each number below n
 pub once_decides : (us : List ℕ) (n : ℕ) (r : Bool) → r ≡ list_all (λ k. eqb (count_by (eqb k) us) 1) (range_with_len 0 n) → Decides r ((k : ℕ) → k < n → count_by (eqb k) us ≡ 1)

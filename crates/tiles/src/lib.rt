@@ -1,8 +1,12 @@
-//! Tile levels: the board, its positions, the moves of the blank, and the finished position.
+//! Tile levels: the board and its positions, a level as a puzzle, how its moves are written, and its text.
 #![tactic(auto)]
 
+mod distances;
+mod game;
 mod level;
+mod level_text;
+mod notation;
 mod position;
 
 pub use level::{TileLevel, is_side};
-pub use position::{BITS_PER_CELL, CELL_MASK};
+pub use level_text::{KEYWORD, read_level, write_level};

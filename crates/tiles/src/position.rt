@@ -1,13 +1,16 @@
 //! Positions: one number with four bits a cell, the first cell lowest.
 ghost use Rattle.std.specs.Prelude.{◌≡◌, ◌<◌, ◌≤◌, ◌↔◌, IsTrue, count_by, ◌≢◌, ◌==◌, nat_eq, slice_index};
 ghost use Rattle.std.specs.List.{position_or_len};
-ghost use Rattle.tiles.specs.Board.{packed, unpacked, cells, swapped, Numbered};
+ghost use Rattle.tiles.specs.Board.{first_cells, cells, SwapsBlank, Numbered};
 
 /// How many bits of a position a cell takes.
-pub const BITS_PER_CELL: usize = 4;
+pub(crate) const BITS_PER_CELL: usize = 4;
+
+/// How many cells a position has, as many as the largest board.
+pub(crate) const MOST_CELLS: usize = 16;
 
 /// The bits of a position's lowest cell.
-pub const CELL_MASK: u64 = 0xF;
+pub(crate) const CELL_MASK: u64 = 0xF;
 
 /// The lowest bit of each cell.
 const LOWEST_BITS: u64 = 0x1111_1111_1111_1111;
@@ -42,7 +45,7 @@ impl UsedCells {
 
     /// The first `used` cells.
     pub(crate) fn new(position: u64, used: usize) -> UsedCells
-        ensures { cells_left result ≡ unpacked used position }
+        ensures { cells_left result ≡ first_cells used position }
     {
         UsedCells {
             position,
@@ -53,8 +56,8 @@ impl UsedCells {
 
 /// The first of all sixteen cells on which nothing lies, or 16 if something lies on each.
 ///
-/// It looks at all cells at once, since a search asks this for each move that it plays: the bits of each cell are brought
-/// together in its lowest one.
+/// It looks at all cells at once, since a search asks this of each position that it leaves: the bits of each cell are
+/// brought together in its lowest one.
 #[tactic(auto, using(crate::proofs::Empty::first_empty))]
 pub(crate) fn first_empty(position: u64) -> usize
     ensures { result ≡ position_or_len (λ t. t == 0) (cells position) }
@@ -71,21 +74,22 @@ fn tile_at(position: u64, cell: usize) -> u8
     (position >> (BITS_PER_CELL * cell) & CELL_MASK) as u8
 }
 
-/// The position after the blank and the tile on `cell` changed places.
+/// The position after the blank and the tile on `cell` changed places, if `blank` is the blank's cell.
 pub(crate) fn with_swapped(position: u64, blank: usize, cell: usize) -> u64
     requires source { cell < 16 }
     requires target { blank < 16 }
     requires apart { cell ≢ blank }
-    requires empty { slice_index (cells position) blank ≡ 0 }
-    ensures { result ≡ packed (swapped (cells position) blank cell) }
+    ensures { SwapsBlank position blank cell result }
 {
     let tile = u64::from(tile_at(position, cell));
-    position - (tile << (BITS_PER_CELL * cell)) + (tile << (BITS_PER_CELL * blank))
+    let taken_off = position - (tile << (BITS_PER_CELL * cell));
+    // Nothing wraps where the blank's cell is empty.
+    taken_off.wrapping_add(tile << (BITS_PER_CELL * blank))
 }
 
 // How many of the first `used` cells hold this tile.
 fn count(position: u64, used: usize, tile: usize) -> usize
-    ensures { result ≡ count_by (nat_eq tile) (unpacked used position) }
+    ensures { result ≡ count_by (nat_eq tile) (first_cells used position) }
 {
     UsedCells::new(position, used)
         .filter(|other| tile == usize::from(*other))

@@ -1,4 +1,4 @@
-pub mod Steps
+pub mod Walking
 pub mod Pass
 pub mod Accepting
 pub mod Lines

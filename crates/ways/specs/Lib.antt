@@ -1,4 +1,4 @@
-pub mod Kinds
+pub mod Notations
 pub mod Judging
-pub mod Passing
 pub mod Writing
+pub mod inside

@@ -1,12 +1,12 @@
-//! Ways: the judge of written ways and the writer of ways, for every kind of level.
+//! Ways: how the moves of a puzzle are written (`Notation`), the judge of written ways, and the writer of ways.
 #![tactic(auto)]
 
 mod judging;
-mod kind;
+mod notation;
 mod progress;
 mod walk;
 mod writing;
 
 pub use judging::judge;
-pub use kind::Kind;
+pub use notation::{IllegalMove, Notation};
 pub use writing::write_way;

@@ -1,42 +1,43 @@
-ghost use Rattle.std.specs.Prelude.{◌≡◌, ◌+◌, ◌^◌, ◌<◌, Err, IfOk, MatchResult};
-ghost use Rattle.text.specs.Reading.{seen};
-ghost use Rattle.ways.specs.Judging.{followed};
+ghost use Rattle.std.specs.Prelude.{◌≡◌};
+ghost use Rattle.ways.specs.inside.Passing.{PassesMove};
 
-use crate::kind::Kind;
+use crate::notation::Notation;
 use crate::walk::Walk;
 use refusals::Refusal;
 
-/// The moves of a way so far: how many its head announced, how many there were, and where they led or the first
-/// refusal of one.
-#[derive(Drop)]
-pub(crate) struct Made<W> {
+/// The moves of a way so far: how many its head announced, and the first refusal of one.
+#[derive(Clone, Copy)]
+pub(crate) struct Moves {
     pub announced: u32,
-    pub count: usize,
-    pub led: Result<W, Refusal>,
+    pub refusal: Option<Refusal>,
 }
 
 /// How far a way has been read.
-#[derive(Drop)]
-pub(crate) enum Progress<W> {
+#[derive(Clone, Copy)]
+pub(crate) enum Progress {
     /// The head is due.
     Head,
     /// A move or the closing bracket is due.
-    Moves(Made<W>),
+    Moves(Moves),
     /// Nothing may follow.
-    Closed(Made<W>),
+    Closed(Moves),
 }
 
-impl<'a, K: Kind> Made<Walk<'a, K>> {
-    /// One move more, as it is written on a line. No text has so many lines that the count could overflow.
-    pub(crate) fn with_move(self, written: &K::Written, line: usize) -> Self
-        ensures announced { result.announced ≡ self.entry.announced }
-        ensures counts { self.entry.count + 1 < 2 ^ 64 → result.count ≡ self.entry.count + 1 }
-        ensures leads { MatchResult self.entry.led (λ walk. (seen (λ next. next.position) result.led ≡ followed (K.Kind.notation walk.kind.now) walk.position line written.now) × IfOk result.led (λ next. next.kind ≡ walk.kind)) (λ refusal. result.led ≡ Err refusal) }
+impl Moves {
+    /// Follows one move more, as it is written on a line, unless one was refused.
+    pub(crate) fn follow<L: Notation>(
+        &mut self,
+        walk: &mut Walk<L>,
+        written: &L::Written,
+        line: usize,
+    )
+        ensures leads { let z = walk.old.level.now in
+            PassesMove (L.meaning z).game (L.spelling z) line written.now
+            self.old walk.old.position self.new walk.new.position }
+        ensures same { walk.new.level ≡ walk.old.level }
     {
-        Made {
-            announced: self.announced,
-            count: self.count.saturating_add(1),
-            led: self.led.and_then(|walk| walk.follow(written, line)),
+        if self.refusal.is_none() {
+            self.refusal = walk.follow(written, line).err();
         }
     }
 }

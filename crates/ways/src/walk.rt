@@ -1,86 +1,89 @@
-ghost use Rattle.std.specs.Prelude.{◌≡◌, IsSome, IfSome, IfOk};
-ghost use Rattle.std.specs.Option.{option_map};
-ghost use Rattle.pen.specs.Ink.{Writes};
+ghost use Rattle.std.specs.Prelude.{◌≡◌};
 ghost use Rattle.puzzle.specs.Game.{Reached};
-ghost use Rattle.text.specs.Reading.{seen};
-ghost use Rattle.ways.specs.Judging.{followed};
-ghost use Rattle.ways.specs.Writing.{opened};
+ghost use Rattle.ways.specs.inside.Walking.{move_judgement, PlaysNumber, FollowsLine, end_judgement, WritesOpen};
 
-use crate::kind::Kind;
-use pen::Pen;
+use crate::notation::{IllegalMove, Notation};
 use refusals::{Fault, Refusal};
+use text::pen::Pen;
 
 /// A position that legal moves of a level lead to.
 #[derive(Drop)]
-pub(crate) struct Walk<'a, K: Kind> {
-    pub(crate) kind: &'a K,
-    pub(crate) position: K::Position,
-    ghost reached: { ∥ Reached (K.Kind.notation kind.now).game position ∥₁ },
+pub(crate) struct Walk<'a, L: Notation> {
+    pub(crate) level: &'a L,
+    position: L::Position,
+    ghost reached: { ∥ Reached (L.meaning level.now).game position ∥₁ },
 }
 
-impl<'a, K: Kind> Walk<'a, K> {
+/// Judges a move: first by what following it answers, then by whether the position before it was finished. No other
+/// place knows this order.
+fn judge_move(outcome: Result<(), IllegalMove>, was_finished: bool) -> Result<(), Fault>
+    ensures { result ≡ move_judgement outcome was_finished }
+{
+    outcome?;
+    if was_finished {
+        return Err(Fault::AfterFinish);
+    }
+    Ok(())
+}
+
+impl<'a, L: Notation> Walk<'a, L> {
     /// The start of a level.
-    pub(crate) fn start(kind: &'a K) -> Self
-        ensures on { result.kind ≡ kind.entry }
-        ensures at { result.position ≡ (K.Kind.notation kind.now).game.start }
+    pub(crate) fn start(level: &'a L) -> Self
+        ensures on { result.level ≡ level.entry }
+        ensures at { result.position ≡ (L.meaning level.now).game.start }
     {
         Walk {
-            kind,
-            position: kind.start(),
+            level,
+            position: level.start(),
         }
     }
 
-    /// Whether the position is finished.
-    pub(crate) fn is_goal(&self) -> bool
-        ensures { result ≡ (K.Kind.notation self.now.kind.now).game.finished self.now.position }
+    /// Plays a move number: says whether there is such a move and it is open. If not, the walk stays where it is.
+    pub(crate) fn play(&mut self, number: u32) -> bool
+        ensures leads { let z = self.old.level.now in
+            PlaysNumber (L.meaning z).game number result self.old.position self.new.position }
+        ensures same { self.new.level ≡ self.old.level }
     {
-        self.kind.is_goal(&self.position)
+        if number >= L::MOVES {
+            return false;
+        }
+        let from = self.position;
+        let prepared = self.level.prepare(&from);
+        self.level
+            .play(&from, &prepared, number, &mut self.position)
     }
 
-    // The number of the move that is said, if something stands there that could move.
-    fn move_number(&self, written: &K::Written) -> Option<u32>
-        ensures { result ≡ (K.Kind.notation self.now.kind.now).named self.now.position written.now }
+    /// Follows a move that is written on a line, or says why it is refused; then the walk stays where it is.
+    pub(crate) fn follow(&mut self, written: &L::Written, line: usize) -> Result<(), Refusal>
+        ensures leads { let z = self.old.level.now in
+            FollowsLine (L.meaning z).game (L.spelling z) line written.now result self.old.position self.new.position }
+        ensures same { self.new.level ≡ self.old.level }
     {
-        self.kind.move_number(&self.position, written)
+        let from = self.position;
+        let outcome = self.level.follow(&from, written, &mut self.position);
+        if let Err(fault) = judge_move(outcome, self.level.is_goal(&from)) {
+            self.position = from;
+            return Err(fault.at(line));
+        }
+        Ok(())
     }
 
-    /// Where a move number leads, if there is such a move and it is open.
-    pub(crate) fn play(&self, number: u32) -> Option<Self>
-        ensures leads { option_map (λ next. next.position) result ≡ opened (K.Kind.notation self.now.kind.now) self.now.position number }
-        ensures same { IfSome result (λ next. next.kind ≡ self.now.kind) }
+    /// Ends the moves on a line, or says that the position there is not finished.
+    pub(crate) fn end(&self, line: usize) -> Result<(), Refusal>
+        ensures { let z = self.now.level.now in
+            result ≡ end_judgement (L.meaning z).game (L.spelling z) self.now.position line }
     {
-        if number >= K::MOVES {
-            return None;
+        if !self.level.is_goal(&self.position) {
+            return Err(Fault::NotFinished.at(line));
         }
-        let mut position = self.position;
-        if !self.kind.play(&self.position, number, &mut position) {
-            return None;
-        }
-        Some(Walk {
-            kind: self.kind,
-            position,
-        })
+        Ok(())
     }
 
     /// Writes the line of a move that is open, without its line end.
     pub(crate) fn write_move(&self, number: u32, pen: &mut Pen)
-        ensures { let k = K.Kind.notation self.now.kind.now in IsSome (opened k self.now.position number) → Writes (k.line self.now.position number) pen.old pen.new }
+        ensures { let z = self.now.level.now in
+            WritesOpen (L.meaning z).game (L.spelling z) self.now.position number pen.old pen.new }
     {
-        self.kind.write_move(&self.position, number, pen);
-    }
-
-    /// Where a move leads that is written on a line, or why it is refused.
-    pub(crate) fn follow(&self, written: &K::Written, line: usize) -> Result<Self, Refusal>
-        ensures leads { seen (λ next. next.position) result ≡ followed (K.Kind.notation self.now.kind.now) self.now.position line written.now }
-        ensures same { IfOk result (λ next. next.kind ≡ self.now.kind) }
-    {
-        let number = self
-            .move_number(written)
-            .ok_or(Fault::NothingThere.at(line))?;
-        let next = self.play(number).ok_or(Fault::ClosedMove.at(line))?;
-        if self.is_goal() {
-            return Err(Fault::AfterFinish.at(line));
-        }
-        Ok(next)
+        self.level.write_move(&self.position, number, pen);
     }
 }

@@ -1,10 +1,12 @@
 ghost use Rattle.std.specs.Prelude.{◌≡◌, ℕ, ◌≤◌};
 ghost use Rattle.pictures.specs.Pictures.{shape};
 ghost use Rattle.molecules.specs.Atoms.{atom_count};
-ghost use Rattle.molecules.specs.Molecules.{wanted};
+ghost use Rattle.molecules.specs.Molecules.{molecule_shape};
 ghost use Rattle.slides.specs.Sets.{has};
-ghost use Rattle.atoms.specs.Board.{wall_at, labels_of, filled, start_cells};
-ghost use Rattle.atoms.specs.Making.{made, told, MakesValid};
+ghost use Rattle.atoms.specs.Board.{is_wall_at, labels_of, array_of, start_cells};
+ghost use Rattle.text.specs.Reading.{map_ok};
+ghost use Rattle.atoms.specs.Level.{atoms};
+ghost use Rattle.atoms.specs.Making.{level_of, MakesValid};
 
 use super::AtomLevel;
 use crate::position::Position;
@@ -20,8 +22,8 @@ impl AtomLevel {
     /// The level on this board that wants this molecule. It is refused if an edge of the molecule holds no atom; and
     /// then if the board has no atom or more than 16, or if a label is not as often in the molecule as on the board.
     pub fn new(board: &Picture, molecule: &Molecule) -> Result<AtomLevel, Fault>
-        ensures makes { told result ≡ made (shape board.now) (wanted molecule.now) }
-        ensures valid { MakesValid (shape board.now) (wanted molecule.now) }
+        ensures makes { map_ok atoms result ≡ level_of (shape board.now) (molecule_shape molecule.now) }
+        ensures valid { MakesValid (shape board.now) (molecule_shape molecule.now) }
     {
         if !molecule.is_edged() {
             return Err(Fault::BareEdge);
@@ -37,7 +39,7 @@ impl AtomLevel {
             labels: labels_of(board),
             start: start_of(board),
             walls: walls_of(board),
-            places: GoalPlaces::find(board, molecule),
+            goal_places: GoalPlaces::find(board, molecule),
         })
     }
 }
@@ -45,11 +47,11 @@ impl AtomLevel {
 // The labels of at most 16 atoms, by number.
 fn labels_of(board: &Picture) -> [u8; AtomLevel::MOST_ATOMS]
     requires { atom_count (shape board.now) ≤ 16 }
-    ensures { result ≡ filled (labels_of (shape board.now)) }
+    ensures { result ≡ array_of (labels_of (shape board.now)) }
 {
     let mut labels = [0; AtomLevel::MOST_ATOMS];
     let found = board.cells().iter().filter_map(|cell| cell.label());
-    // By place, since nothing is told of what is written through an adapter of `iter_mut`.
+    // By index, since nothing is told of what is written through an adapter of `iter_mut`.
     for (atom, label) in found.enumerate() {
         labels[atom] = label;
     }
@@ -66,22 +68,22 @@ fn start_of(board: &Picture) -> Position
         .cells()
         .iter()
         .enumerate()
-        .filter(|(_, cell)| cell.label().is_some());
-    // By place, as in `labels_of`.
-    for (atom, (place, _)) in atoms.enumerate() {
-        cells[atom] = place as u8;
+        .filter(|(_, drawn)| drawn.label().is_some());
+    // By index, as in `labels_of`.
+    for (atom, (cell, _)) in atoms.enumerate() {
+        cells[atom] = cell as u8;
     }
     Position { cells }
 }
 
 // The walls of a board.
 fn walls_of(board: &Picture) -> CellSet
-    ensures { (k : ℕ) → has result k ≡ wall_at (shape board.now) k }
+    ensures { (k : ℕ) → has result k ≡ is_wall_at (shape board.now) k }
 {
     let mut walls = CellSet::default();
-    for (place, cell) in board.cells().iter().enumerate() {
-        if *cell == Cell::Wall {
-            walls.insert(place as u8);
+    for (cell, drawn) in board.cells().iter().enumerate() {
+        if *drawn == Cell::Wall {
+            walls.insert(cell as u8);
         }
     }
     walls

@@ -1,6 +1,6 @@
 ghost use Rattle.std.specs.Prelude.{◌≡◌, ℕ, [], ◌<◌, nat_lt, length, slice_get, MatchOption, ⊤};
-ghost use Rattle.hash_index.specs.Index.{fits, Started, Pushed, IsLast, IsEarlier};
-ghost use Rattle.hash_index.specs.Chains.{bucket_of, IsInBucket, IsLargest};
+ghost use Rattle.hash_index.specs.Index.{fits, Starts, Pushes, IsLast, IsEarlier};
+ghost use Rattle.hash_index.specs.inside.Chains.{FindsLast};
 
 use super::HashIndex;
 use crate::chains::{Chains, bucket_of};
@@ -27,7 +27,7 @@ impl<'a> HashIndex<'a> {
     /// for each place, or the places are too many.
     pub fn start(&mut self, capacity: usize) -> bool
         ensures fits { result ≡ fits capacity self.old.numbers }
-        ensures after { Started capacity self.old result self.new }
+        ensures after { Starts capacity self.old result self.new }
     {
         if capacity > MOST_PLACES
             || self.chains.numbers.len() != NUMBERS_FOR_EACH_PLACE * capacity
@@ -43,7 +43,7 @@ impl<'a> HashIndex<'a> {
     /// Adds a key at the next place, if there is one.
     pub fn push(&mut self, key: u32) -> bool
         ensures room { result ≡ nat_lt (length self.old.keys) self.old.capacity }
-        ensures after { Pushed key self.old result self.new }
+        ensures after { Pushes key self.old result self.new }
     {
         let place = self.used;
         if place >= self.capacity {
@@ -80,7 +80,7 @@ impl<'a> HashIndex<'a> {
     /// The first place that has the key, along the chain that begins at `from`.
     fn along(&self, from: Option<usize>, key: u32) -> Option<usize>
         requires { MatchOption from ⊤ (λ place. place < length self.now.keys) }
-        ensures { (n : ℕ) → IsLargest (IsInBucket self.now.numbers self.now.capacity (bucket_of self.now.capacity key)) n from → IsLast self.now.keys n key result }
+        ensures { FindsLast self.now key from result }
     {
         let mut next = from;
         while let Some(place) = next {

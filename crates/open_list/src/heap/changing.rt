@@ -1,7 +1,7 @@
 ghost use Rattle.std.specs.Prelude.{◌<◌};
-ghost use Rattle.open_list.specs.Layout.{depth_of};
-ghost use Rattle.open_list.specs.Sifting.{Arranged};
-ghost use Rattle.open_list.specs.Changing.{Added, Lowered, FirstClosed};
+ghost use Rattle.open_list.specs.inside.Layout.{depth_of};
+ghost use Rattle.open_list.specs.inside.Sifting.{IsArranged};
+ghost use Rattle.open_list.specs.inside.Changing.{Adds, Lowers, ClosesFirst};
 
 use super::Sizes;
 use super::layout::{NO_SLOT, close, place_in, set_depth, set_floor, slot_of};
@@ -9,9 +9,9 @@ use super::sifting::{sift_down, sift_up};
 
 /// Adds an open place behind those in use.
 pub(crate) fn add(numbers: &mut [u32], sizes: Sizes, depth: u32, floor: u16) -> Sizes
-    requires arranged { Arranged numbers.old sizes }
+    requires arranged { IsArranged numbers.old sizes }
     requires room { sizes.used < sizes.capacity }
-    ensures { Added depth floor numbers.old numbers.new sizes result }
+    ensures { Adds depth floor numbers.old numbers.new sizes result }
 {
     let place = sizes.used;
     let more = Sizes {
@@ -27,10 +27,10 @@ pub(crate) fn add(numbers: &mut [u32], sizes: Sizes, depth: u32, floor: u16) -> 
 
 /// Opens a place with fewer moves.
 pub(crate) fn lower(numbers: &mut [u32], sizes: Sizes, place: usize, depth: u32) -> Sizes
-    requires arranged { Arranged numbers.old sizes }
+    requires arranged { IsArranged numbers.old sizes }
     requires in_use { place < sizes.used }
     requires fewer { depth < depth_of numbers.old place }
-    ensures { Lowered place depth numbers.old numbers.new sizes result }
+    ensures { Lowers place depth numbers.old numbers.new sizes result }
 {
     let slot = slot_of(numbers, place);
     set_depth(numbers, place, depth);
@@ -49,9 +49,9 @@ pub(crate) fn lower(numbers: &mut [u32], sizes: Sizes, place: usize, depth: u32)
 
 /// Closes the place that comes first.
 pub(crate) fn close_first(numbers: &mut [u32], sizes: Sizes) -> Sizes
-    requires arranged { Arranged numbers.old sizes }
+    requires arranged { IsArranged numbers.old sizes }
     requires some { 0 < sizes.queued }
-    ensures { FirstClosed numbers.old numbers.new sizes result }
+    ensures { ClosesFirst numbers.old numbers.new sizes result }
 {
     let fewer = Sizes {
         capacity: sizes.capacity,

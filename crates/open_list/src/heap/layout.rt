@@ -1,6 +1,6 @@
 ghost use Rattle.std.specs.Prelude.{◌≡◌, ◌+◌, ◌*◌, ◌<◌, ◌≤◌, length, slice_set};
-ghost use Rattle.open_list.specs.Layout.{depth_of, floor_of, slot_of, place_in, no_slot, rank};
-ghost use Rattle.open_list.specs.Sifting.{Put};
+ghost use Rattle.open_list.specs.inside.Layout.{depth_of, floor_of, slot_of, place_in, no_slot, rank};
+ghost use Rattle.open_list.specs.inside.Sifting.{Puts};
 
 /// How many numbers a place has, besides one in the heap.
 const FIELDS: usize = 3;
@@ -22,7 +22,7 @@ const FLOORS: u64 = 1 << 16;
 const PLACES: u128 = 1 << 64;
 
 /// The moves made to a place.
-#[tactic(auto, unfolding(crate::specs::Layout::depth_of))]
+#[tactic(auto, unfolding(crate::specs::inside::Layout::depth_of))]
 pub(crate) fn depth_of(numbers: &[u32], place: usize) -> u32
     requires { 3 * place + 2 < length numbers.now }
     ensures { result ≡ depth_of numbers.now place }
@@ -31,7 +31,7 @@ pub(crate) fn depth_of(numbers: &[u32], place: usize) -> u32
 }
 
 /// The slot of a place.
-#[tactic(auto, unfolding(crate::specs::Layout::slot_of))]
+#[tactic(auto, unfolding(crate::specs::inside::Layout::slot_of))]
 pub(crate) fn slot_of(numbers: &[u32], place: usize) -> u32
     requires { 3 * place + 2 < length numbers.now }
     ensures { result ≡ slot_of numbers.now place }
@@ -40,7 +40,7 @@ pub(crate) fn slot_of(numbers: &[u32], place: usize) -> u32
 }
 
 /// The place in a slot of the heap.
-#[tactic(auto, unfolding(crate::specs::Layout::place_in))]
+#[tactic(auto, unfolding(crate::specs::inside::Layout::place_in))]
 pub(crate) fn place_in(numbers: &[u32], capacity: usize, slot: usize) -> usize
     requires few { capacity ≤ 1048576 }
     requires inside { 3 * capacity + slot < length numbers.now }
@@ -50,7 +50,7 @@ pub(crate) fn place_in(numbers: &[u32], capacity: usize, slot: usize) -> usize
 }
 
 /// What places are ordered by: the lower rank comes first.
-#[tactic(auto, unfolding(crate::specs::Layout::depth_of, crate::specs::Layout::floor_of, crate::specs::Layout::rank))]
+#[tactic(auto, unfolding(crate::specs::inside::Layout::depth_of, crate::specs::inside::Layout::floor_of, crate::specs::inside::Layout::rank))]
 pub(crate) fn rank(numbers: &[u32], place: usize) -> u128
     requires { 3 * place + 2 < length numbers.now }
     ensures { result ≡ rank numbers.now place }
@@ -66,7 +66,7 @@ pub(crate) fn put(numbers: &mut [u32], capacity: usize, slot: usize, place: usiz
     requires room { 4 * capacity ≤ length numbers.old }
     requires slot { slot < capacity }
     requires place { place < capacity }
-    ensures { Put capacity slot place numbers.old numbers.new }
+    ensures { Puts capacity slot place numbers.old numbers.new }
 {
     numbers[FIELDS * capacity + slot] = place as u32;
     numbers[FIELDS * place + SLOT] = slot as u32;

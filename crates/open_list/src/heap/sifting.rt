@@ -1,6 +1,6 @@
 ghost use Rattle.std.specs.Prelude.{◌≡◌, ◌+◌, ◌<◌};
-ghost use Rattle.open_list.specs.Layout.{place_in, above, rank};
-ghost use Rattle.open_list.specs.Sifting.{Stored, PlacesFrom, Rising, Sinking, Sifted, IsLaterAbove, IsEarliest, IsEarlierBelow};
+ghost use Rattle.open_list.specs.inside.Layout.{place_in, above, rank};
+ghost use Rattle.open_list.specs.inside.Sifting.{HasRoom, PlacesFrom, MayRise, MaySink, SiftsIn, IsLaterAbove, IsEarliest, IsEarlierBelow};
 
 use super::Sizes;
 use super::layout::{place_in, put, rank};
@@ -10,8 +10,8 @@ const SLOTS_BELOW: usize = 4;
 
 /// Puts a place into the heap, in a slot or one above it.
 pub(crate) fn sift_up(numbers: &mut [u32], sizes: Sizes, from: usize, place: usize)
-    requires { Rising (rank numbers.old) numbers.old sizes from place }
-    ensures { Sifted place numbers.old numbers.new sizes }
+    requires { MayRise (rank numbers.old) numbers.old sizes from place }
+    ensures { SiftsIn place numbers.old numbers.new sizes }
 {
     let own = rank(numbers, place);
     let mut slot = from;
@@ -24,8 +24,8 @@ pub(crate) fn sift_up(numbers: &mut [u32], sizes: Sizes, from: usize, place: usi
 
 /// Puts a place into the heap, in a slot or one below it.
 pub(crate) fn sift_down(numbers: &mut [u32], sizes: Sizes, from: usize, place: usize)
-    requires { Sinking (rank numbers.old) numbers.old sizes from place }
-    ensures { Sifted place numbers.old numbers.new sizes }
+    requires { MaySink (rank numbers.old) numbers.old sizes from place }
+    ensures { SiftsIn place numbers.old numbers.new sizes }
 {
     let own = rank(numbers, place);
     let mut slot = from;
@@ -39,7 +39,7 @@ pub(crate) fn sift_down(numbers: &mut [u32], sizes: Sizes, from: usize, place: u
 
 // The place above a slot, if it comes after a rank.
 fn later_above(numbers: &[u32], sizes: Sizes, slot: usize, bound: u128) -> Option<usize>
-    requires stored { Stored numbers.now sizes }
+    requires has_room { HasRoom numbers.now sizes }
     requires slot_in { slot < sizes.queued }
     requires above_in { 0 < slot → place_in numbers.now sizes.capacity (above slot) < sizes.capacity }
     ensures { IsLaterAbove numbers.now sizes.capacity slot bound result }
@@ -53,7 +53,7 @@ fn later_above(numbers: &[u32], sizes: Sizes, slot: usize, bound: u128) -> Optio
 
 // Of the slots below a slot the one whose place comes first, if that comes before a rank.
 fn earlier_below(numbers: &[u32], sizes: Sizes, slot: usize, bound: u128) -> Option<usize>
-    requires stored { Stored numbers.now sizes }
+    requires has_room { HasRoom numbers.now sizes }
     requires slot_in { slot < sizes.queued }
     requires places { PlacesFrom (slot + 1) numbers.now sizes }
     ensures { IsEarlierBelow numbers.now sizes slot bound result }
@@ -68,7 +68,7 @@ fn earlier_below(numbers: &[u32], sizes: Sizes, slot: usize, bound: u128) -> Opt
 
 // Of a slot and the three beside it in the heap the one whose place comes first.
 fn earliest(numbers: &[u32], sizes: Sizes, from: usize) -> usize
-    requires stored { Stored numbers.now sizes }
+    requires has_room { HasRoom numbers.now sizes }
     requires from_in { from < sizes.queued }
     requires places { PlacesFrom from numbers.now sizes }
     ensures { IsEarliest numbers.now sizes from (from + 4) result }
@@ -88,7 +88,7 @@ fn earliest(numbers: &[u32], sizes: Sizes, from: usize) -> usize
 
 // The rank of the place in a slot.
 fn rank_in(numbers: &[u32], sizes: Sizes, slot: usize) -> u128
-    requires stored { Stored numbers.now sizes }
+    requires has_room { HasRoom numbers.now sizes }
     requires slot_in { slot < sizes.queued }
     requires place_small { place_in numbers.now sizes.capacity slot < sizes.capacity }
     ensures { result ≡ rank numbers.now (place_in numbers.now sizes.capacity slot) }

@@ -1,7 +1,7 @@
 ghost use Rattle.std.specs.Prelude.{◌≡◌, [], Some, None, nat_lt, length, slice_get};
 ghost use Rattle.std.specs.Option.{option_map};
 ghost use Rattle.open_list.specs.Entries.{IsFirst};
-ghost use Rattle.open_list.specs.OpenList.{fits, Started, Pushed, is_nearer, Reached, Closed};
+ghost use Rattle.open_list.specs.OpenList.{fits, Starts, Pushes, is_nearer, Reaches, Closes};
 
 use super::OpenList;
 use crate::heap::{Heap, Sizes};
@@ -31,7 +31,7 @@ impl<'a> OpenList<'a> {
     /// for each place, or the places are too many.
     pub fn start(&mut self, capacity: usize) -> bool
         ensures fits { result ≡ fits capacity self.old.numbers }
-        ensures after { Started capacity self.old result self.new }
+        ensures after { Starts capacity self.old result self.new }
     {
         if capacity > MOST_PLACES || self.heap.numbers.len() != NUMBERS * capacity {
             return false;
@@ -67,7 +67,7 @@ impl<'a> OpenList<'a> {
     #[tactic(auto, using(crate::proofs::Lists::length_entries))]
     pub fn push(&mut self, depth: u32, floor: u16) -> bool
         ensures room { result ≡ nat_lt (length self.old.entries) self.old.capacity }
-        ensures after { Pushed depth floor self.old result self.new }
+        ensures after { Pushes depth floor self.old result self.new }
     {
         if self.sizes.used >= self.sizes.capacity {
             return false;
@@ -81,7 +81,7 @@ impl<'a> OpenList<'a> {
     #[tactic(auto, using(crate::proofs::Lists::entry_there, crate::proofs::Lists::entry_past))]
     pub fn reach(&mut self, place: usize, depth: u32) -> bool
         ensures nearer { result ≡ is_nearer depth (slice_get self.old.entries place) }
-        ensures after { Reached place depth self.old result self.new }
+        ensures after { Reaches place depth self.old result self.new }
     {
         if place >= self.sizes.used || self.heap.depth(place) <= depth {
             return false;
@@ -106,7 +106,7 @@ impl<'a> OpenList<'a> {
     #[tactic(auto, using(crate::proofs::Firsts::none_open, crate::proofs::Firsts::foremost))]
     pub fn close_first(&mut self) -> Option<usize>
         ensures first { IsFirst self.old.entries result }
-        ensures after { Closed self.old result self.new }
+        ensures after { Closes self.old result self.new }
     {
         if self.sizes.queued == 0 {
             return None;

@@ -1,5 +1,5 @@
-ghost use Rattle.std.specs.Prelude.{◌≡◌, []};
-ghost use Rattle.pictures.specs.Pictures.{shape_of, told, blank, with_row, shape, cell_at};
+ghost use Rattle.std.specs.Prelude.{◌≡◌, [], option_map};
+ghost use Rattle.pictures.specs.Pictures.{shape_of, blank_shape, with_row, shape, cell_at};
 
 use super::Picture;
 use crate::cell::Cell;
@@ -29,7 +29,7 @@ impl Picture {
 
     /// A picture of this width with no row yet; there is none unless it is 1 to 16 wide.
     pub fn new(width: usize) -> Option<Picture>
-        ensures { told result ≡ blank width }
+        ensures { option_map shape result ≡ blank_shape width }
     {
         if !(1..=Self::LONGEST_SIDE).contains(&width) {
             return None;
@@ -58,16 +58,16 @@ impl Picture {
     }
 
     /// The cell with this number in reading order. Past the last cell all is wall.
-    pub fn cell(&self, place: usize) -> Cell
-        ensures { result ≡ cell_at (shape self.now) place }
+    pub fn cell(&self, number: usize) -> Cell
+        ensures { result ≡ cell_at (shape self.now) number }
     {
-        self.cells().get(place).copied().unwrap_or(Cell::Wall)
+        self.cells().get(number).copied().unwrap_or(Cell::Wall)
     }
 
     /// The picture with one row more. There is none if the row is not as wide as the picture, if a character draws no
     /// cell, or if the picture has 16 rows.
     pub fn with_row(&self, row: &[u8]) -> Option<Picture>
-        ensures { told result ≡ with_row (shape self.now) row.now }
+        ensures { option_map shape result ≡ with_row (shape self.now) row.now }
     {
         let Grid { width, height } = self.grid;
         if row.len() != usize::from(width) || usize::from(height) >= Self::LONGEST_SIDE {
@@ -75,7 +75,7 @@ impl Picture {
         }
         let mut cells = self.cells;
         let first = self.grid.cells();
-        // By place, since nothing is told of what is written through an adapter of `iter_mut`.
+        // By index, since nothing is told of what is written through an adapter of `iter_mut`.
         for (column, &symbol) in row.iter().enumerate() {
             cells[first + column] = Cell::try_from(char::from(symbol)).ok()?;
         }

@@ -1,8 +1,9 @@
 //! The calls of a search.
-ghost use Rattle.std.specs.Prelude.{◌≡◌, ◌↔◌, ◌++◌, IsTrue, IfOk, length, OnErr};
+ghost use Rattle.std.specs.Prelude.{◌≡◌, ◌↔◌, IsTrue, IfOk, length, OnErr};
 ghost use Rattle.search_theory.specs.declared.Verdict.TheVariants.{Running};
-ghost use Rattle.search.specs.Contents.{search_of};
-ghost use Rattle.search_theory.specs.Calls.{new_search, Opens, Served, Advances, Bears, advance_refusal, Reports, Recites, IsSolved, recite_refusal, refusal_in};
+ghost use Rattle.search.specs.Contents.{search_of, LiesIn};
+ghost use Rattle.search.specs.Calls.{AlwaysAdvances, AdvancesFor, RecitesFor};
+ghost use Rattle.search_theory.specs.Calls.{new_search, Opens, advance_refusal, Reports, IsSolved, recite_refusal, refusal_in};
 ghost use Rattle.search_theory.specs.Promise.{Promise};
 
 use super::Search;
@@ -30,7 +31,7 @@ impl<'a, P: Copy> Search<'a, P> {
     /// A new search over lent memory. Whether the table and the list go together is asked when it is opened.
     pub fn new(table: &'a mut [P], numbers: &'a mut [u32]) -> Self
         ensures empty { search_of result ≡ new_search (length table.old) (length numbers.old) }
-        ensures lent { (result.table ≡ table.old) × (result.open_list.numbers ++ (result.index.numbers ++ result.links) ≡ numbers.old) }
+        ensures lent { LiesIn result table.old numbers.old }
     {
         let places = table.len();
         let listed = numbers.len();
@@ -95,8 +96,8 @@ impl<'a, P: Copy> Search<'a, P> {
         puzzle: &Z,
         budget: u32,
     ) -> Result<Advance, Fault>
-        ensures advances { let m = Z.Puzzle.meaning puzzle.now in Served m (search_of self.old) → Advances m budget (search_of self.old) result (search_of self.new) }
-        ensures bears { IfOk result (λ answer. Bears budget (search_of self.old) answer (search_of self.new)) }
+        ensures advances { AdvancesFor (Z.Puzzle.meaning puzzle.now) budget self.old result self.new }
+        ensures always { AlwaysAdvances budget self.old result self.new }
         ensures refused { refusal_in result ≡ advance_refusal (search_of self.old) budget }
         ensures same { OnErr result (self.new ≡ self.old) }
     {
@@ -148,7 +149,7 @@ impl<'a, P: Copy> Search<'a, P> {
         puzzle: &Z,
         moves: &mut [u32],
     ) -> Result<usize, Fault>
-        ensures recites { let m = Z.Puzzle.meaning puzzle.now in Served m (search_of self.now) → Recites m (search_of self.now) moves.old result moves.new }
+        ensures recites { RecitesFor (Z.Puzzle.meaning puzzle.now) self.now moves.old result moves.new }
         ensures solved { IfOk result (IsSolved (search_of self.now)) }
         ensures refused { refusal_in result ≡ recite_refusal (search_of self.now) (length moves.old) }
         ensures same { OnErr result (moves.new ≡ moves.old) }

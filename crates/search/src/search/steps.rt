@@ -1,11 +1,8 @@
 //! A step and its parts.
-ghost use Rattle.std.specs.Prelude.{◌≡◌, [], ◌<◌, true, length, nat_lt, slice_get, IfSome};
-ghost use Rattle.puzzle.specs.Game.{Reached};
-ghost use Rattle.search_theory.specs.Known.{Known};
-ghost use Rattle.search_theory.specs.Steps.{begun, Step};
-ghost use Rattle.open_list.specs.Entries.{entry};
-ghost use Rattle.search.specs.Contents.{node_of, link_of, nodes_of, numbers_of, state_of, Framed};
-ghost use Rattle.search.specs.Parts.{Finds, Stored, relaxed, OfTaken, Ready, Moved, Expanded};
+ghost use Rattle.std.specs.Prelude.{◌≡◌, ◌<◌, length, nat_lt, IfSome};
+ghost use Rattle.search.specs.Contents.{nodes_of, numbers_of};
+ghost use Rattle.search.specs.inside.Memory.{ChangesNodesOnly};
+ghost use Rattle.search.specs.inside.Parts.{FindsByKey, open_node, Stores, StoresStart, Relaxes, IsPrepared, PlaysMove, PlaysMoves, TakesStep};
 
 use super::Search;
 use puzzle::Puzzle;
@@ -28,11 +25,19 @@ impl Reach {
     };
 }
 
+/// The node that a step takes: its place, with how many moves it was reached, and its position.
+#[derive(Clone, Copy)]
+pub(crate) struct TakenNode<P> {
+    pub(crate) place: usize,
+    pub(crate) depth: u32,
+    pub(crate) position: P,
+}
+
 impl<'a, P: Copy> Search<'a, P> {
     // The place of the node that holds a position.
     fn find<Z: Puzzle<Position = P>>(&self, puzzle: &Z, position: &P, key: u32) -> Option<usize>
         ensures inside { IfSome result (λ place. place < length self.now.open_list.entries) }
-        ensures finds { let m = Z.Puzzle.meaning puzzle.now in Known m (nodes_of self.now) → Reached m.game position.now → key ≡ m.key position.now → Finds (nodes_of self.now) position.now result }
+        ensures finds { FindsByKey (Z.Puzzle.meaning puzzle.now) (nodes_of self.now) position.now key result }
     {
         let mut candidate = self.index.last(key);
         while let Some(place) = candidate {
@@ -49,7 +54,7 @@ impl<'a, P: Copy> Search<'a, P> {
         requires parent { reach.parent < 1048576 }
         requires number { reach.number < 256 }
         ensures room { result ≡ nat_lt (length (nodes_of self.old)) self.old.open_list.capacity }
-        ensures after { Stored (node_of position (entry reach.depth floor true) key (link_of reach.parent reach.number)) self.old result self.new }
+        ensures after { Stores (open_node position key floor reach) self.old result self.new }
     {
         let place = self.open_list.len();
         if !self.open_list.push(reach.depth, floor) {
@@ -64,7 +69,7 @@ impl<'a, P: Copy> Search<'a, P> {
 
     /// Stores the start with no moves made, open; or, if it is dead, nothing, and there is no way.
     pub(crate) fn store_start<Z: Puzzle<Position = P>>(&mut self, puzzle: &Z)
-        ensures begins { nodes_of self.old ≡ [] → 0 < self.old.open_list.capacity → self.old.steps ≡ 0 → state_of self.new ≡ begun (Z.Puzzle.meaning puzzle.now) (length self.old.table) }
+        ensures begins { StoresStart (Z.Puzzle.meaning puzzle.now) self.old self.new }
         ensures table { length self.new.table ≡ length self.old.table }
         ensures numbers { numbers_of self.new ≡ numbers_of self.old }
         ensures opened { self.new.opened ≡ self.old.opened }
@@ -83,64 +88,61 @@ impl<'a, P: Copy> Search<'a, P> {
     fn relax(&mut self, place: usize, reach: Reach)
         requires parent { reach.parent < 1048576 }
         requires number { reach.number < 256 }
-        ensures after { nodes_of self.new ≡ relaxed (nodes_of self.old) place (slice_get (nodes_of self.old) place) reach.depth reach.parent reach.number }
-        ensures frame { Framed self.old self.new }
+        ensures after { Relaxes place reach (nodes_of self.old) (nodes_of self.new) }
+        ensures frame { ChangesNodesOnly self.old self.new }
     {
         if self.open_list.reach(place, reach.depth) {
             self.links.put(place, reach.parent, reach.number);
         }
     }
 
-    // Plays a move from the node at a place, and answers whether there was room for where it leads.
+    // Plays a move from the taken node, into a lent position, and answers whether there was room for where it leads.
     fn play_move<Z: Puzzle<Position = P>>(
         &mut self,
         puzzle: &Z,
-        place: usize,
-        from: &P,
-        depth: u32,
+        from: &TakenNode<P>,
+        prepared: &Z::Prepared,
         number: u32,
+        to: &mut P,
     ) -> bool
-        requires place { place < length self.old.open_list.entries }
-        requires few { place < 1048576 }
+        requires place { from.now.place < length self.old.open_list.entries }
+        requires few { from.now.place < 1048576 }
+        requires ready { IsPrepared (Z.Puzzle.meaning puzzle.now) (Z.Puzzle.Prepares puzzle.now) from.now prepared.now }
         requires number { number < Z.Puzzle.MOVES }
-        ensures moves { let m = Z.Puzzle.meaning puzzle.now in OfTaken m (nodes_of self.old) place from.now depth (λ taken. Moved m self.old.open_list.capacity place taken number self.old result self.new) }
-        ensures frame { Framed self.old self.new }
+        ensures moves { PlaysMove (Z.Puzzle.meaning puzzle.now) from.now number self.old result self.new }
+        ensures frame { ChangesNodesOnly self.old self.new }
     {
-        let mut to = *from;
-        if !puzzle.play(from, number, &mut to) {
+        if !puzzle.play(&from.position, prepared, number, to) {
             return true;
         }
         let reach = Reach {
-            depth: depth.saturating_add(1),
-            parent: place as u32,
+            depth: from.depth.saturating_add(1),
+            parent: from.place as u32,
             number,
         };
-        let key = puzzle.key(&to);
-        if let Some(known) = self.find(puzzle, &to, key) {
+        let key = puzzle.key(to);
+        if let Some(known) = self.find(puzzle, to, key) {
             self.relax(known, reach);
             return true;
         }
-        let Some(floor) = puzzle.lower_bound(&to) else {
+        let Some(floor) = puzzle.lower_bound(to) else {
             return true;
         };
-        self.store(to, key, floor, reach)
+        self.store(*to, key, floor, reach)
     }
 
-    // Plays every move from the node at a place, and answers whether there was room.
-    fn expand<Z: Puzzle<Position = P>>(
-        &mut self,
-        puzzle: &Z,
-        place: usize,
-        from: &P,
-        depth: u32,
-    ) -> bool
-        requires place { place < length self.old.open_list.entries }
-        requires few { place < 1048576 }
-        ensures moves { let m = Z.Puzzle.meaning puzzle.now in OfTaken m (nodes_of self.old) place from.now depth (λ taken. Expanded m self.old.open_list.capacity place taken self.old result self.new) }
-        ensures frame { Framed self.old self.new }
+    // Plays every move from the taken node, and answers whether there was room.
+    fn expand<Z: Puzzle<Position = P>>(&mut self, puzzle: &Z, from: &TakenNode<P>) -> bool
+        requires place { from.now.place < length self.old.open_list.entries }
+        requires few { from.now.place < 1048576 }
+        ensures moves { PlaysMoves (Z.Puzzle.meaning puzzle.now) from.now self.old result self.new }
+        ensures frame { ChangesNodesOnly self.old self.new }
     {
+        let prepared = puzzle.prepare(&from.position);
+        // One position is lent for all moves.
+        let mut to = from.position;
         for number in 0..Z::MOVES {
-            if !self.play_move(puzzle, place, from, depth, number) {
+            if !self.play_move(puzzle, from, &prepared, number, &mut to) {
                 return false;
             }
         }
@@ -149,7 +151,7 @@ impl<'a, P: Copy> Search<'a, P> {
 
     /// One step: the open node that comes first is finished, or every move is played from it.
     pub(crate) fn step<Z: Puzzle<Position = P>>(&mut self, puzzle: &Z)
-        ensures steps { let m = Z.Puzzle.meaning puzzle.now in Ready m self.old → Step m (length self.old.table) (state_of self.old) (state_of self.new) }
+        ensures steps { TakesStep (Z.Puzzle.meaning puzzle.now) self.old self.new }
         ensures table { length self.new.table ≡ length self.old.table }
         ensures numbers { numbers_of self.new ≡ numbers_of self.old }
         ensures opened { self.new.opened ≡ self.old.opened }
@@ -159,14 +161,17 @@ impl<'a, P: Copy> Search<'a, P> {
             return;
         };
         self.steps = self.steps.saturating_add(1);
-        let depth = self.open_list.depth(place).unwrap_or(0);
-        let from = self.table.get(place);
-        if puzzle.is_goal(&from) {
-            self.verdict = Verdict::Solved(depth);
+        let taken = TakenNode {
+            place,
+            depth: self.open_list.depth(place).unwrap_or(0),
+            position: self.table.get(place),
+        };
+        if puzzle.is_goal(&taken.position) {
+            self.verdict = Verdict::Solved(taken.depth);
             return;
         }
         self.open_list.close_first();
-        self.verdict = if !self.expand(puzzle, place, &from, depth) {
+        self.verdict = if !self.expand(puzzle, &taken) {
             Verdict::TableFull
         } else if self.open_list.first().is_none() {
             Verdict::Unsolvable

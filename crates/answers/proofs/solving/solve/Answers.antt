@@ -21,7 +21,7 @@ returns-in-Solved g c =
     let m = g.Z.Puzzle.meaning c.args.puzzle.now in
     let e = ends (g.Z.Puzzle.meaning c.args.puzzle.now) 2048 4294967295 (search_of c.new-search.result) (search_of c.open.new.self) (search_of c.advance.new.self) c.open.result c.unwrap.result c.advance.result c.unwrap-advance.result
     (new_as (search_of c.new-search.result) (length c.args.table.now) (length c.args.numbers.now) 2048 16384 c.new-search.ensures.empty c.requires.table c.requires.numbers) c.unwrap.ensures c.open.ensures.opens c.open.ensures.promise c.unwrap-advance.ensures c.advance.ensures.advances (omega arith) in
-    let recites = subst (λ r. Recites m (search_of c.advance.new.self) c.args.moves.now r c.solution.new.moves) c.unwrap-in-Solved.ensures (c.solution.ensures.recites e.served) in
+    let recites = subst (λ r. Recites m (search_of c.advance.new.self) c.args.moves.now r c.solution.new.moves) c.unwrap-in-Solved.ensures (c.solution.ensures.recites e.all_calls) in
     e.solves c.unwrap-in-Solved.result c.args.moves.now c.solution.new.moves recites
 
 pub returns-in-Unsolvable : goal.returns-in-Unsolvable

@@ -8,4 +8,4 @@ invariant-loop-text g l = 0 < l.room
 
 -- what is missing
 abbrev pub decreases-loop-text : goal.decreases-loop-text
-decreases-loop-text g l = length (way_text (g.K.Kind.notation l.kind) l.moves) - l.room
+decreases-loop-text g l = length (way_text (g.L.Puzzle.meaning l.level).game (g.L.Notation.spelling l.level) l.moves) - l.room

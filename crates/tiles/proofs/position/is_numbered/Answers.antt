@@ -2,7 +2,7 @@ use Rattle.std.proofs.Common.{◌≡◌, ℕ, suc, ◌-◌, ◌*◌, ◌/◌, �
 use Rattle.std.proofs.lemmas.Bool.Decides.{nat_tests}
 use Rattle.std.proofs.lemmas.Iterator.{YieldsList-from_range}
 use Rattle.std.proofs.lemmas.Iterator.Search.{all_from_yields_List}
-use Rattle.tiles.specs.Board.{unpacked}
+use Rattle.tiles.specs.Board.{first_cells}
 use Rattle.tiles.proofs.Board.{fits_cell}
 use Rattle.tiles.proofs.Walks.{once_decides}
 use Rattle.tiles.proofs.position.is_numbered.Goals as goal
@@ -15,7 +15,7 @@ last_cell p n some =
 
 pub returns-then-position-used-le-CELL_MASK : goal.returns-then-position-used-le-CELL_MASK
 returns-then-position-used-le-CELL_MASK c =
-    let us = unpacked c.args.used c.args.position in
+    let us = first_cells c.args.used c.args.position in
     let fits = (last_cell c.args.position c.args.used c.requires.0).0 c.if-position-used-le-CELL_MASK.true in
     let listed = YieldsList-from_range 0 c.args.used c.args.used refl (omega arith) in
     let once = once_decides us c.args.used c.all.result (all_from_yields_List (λ k. eqb (count_by (eqb k) us) 1) _ _ c.all.result c.all.ensures.ran listed (λ k b q h. search (rules, tests))) in

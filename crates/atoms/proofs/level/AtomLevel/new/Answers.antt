@@ -1,7 +1,8 @@
 use Rattle.std.proofs.Common.{◌≤◌, sym, ◌∙◌, rules, arith}
 use Rattle.pictures.specs.Pictures.{shape}
-use Rattle.molecules.specs.Molecules.{wanted}
-use Rattle.atoms.proofs.Making.{framed, made_from, made_valid}
+use Rattle.molecules.specs.Molecules.{molecule_shape}
+use Rattle.atoms.proofs.Making.{made_from, made_valid}
+use Rattle.atoms.specs.laws.Levels.{framed}
 use Rattle.atoms.proofs.Roll.{labels_filled}
 use Rattle.atoms.proofs.level.AtomLevel.new.Goals as goal
 
@@ -25,8 +26,8 @@ returns c =
     let few : c.count_atoms-atoms.result ≤ 16 = search rules in
     let same = sym c.has_labels_of.ensures.says ∙ c.if-not-has_labels_of.false in
     record {
-      makes = sym (made_from (shape b) (wanted m) edges (omega arith) (omega arith) same);
-      valid = made_valid (shape b) (wanted m) (framed b) (framed m.picture) m.unwalled;
+      makes = sym (made_from (shape b) (molecule_shape m) edges (omega arith) (omega arith) same);
+      valid = made_valid (shape b) (molecule_shape m) (framed b) (framed m.picture) m.unwalled;
     }
 
 pub returns-then-not-contains-clause-valid : goal.returns-then-not-contains-clause-valid

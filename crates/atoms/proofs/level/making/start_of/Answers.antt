@@ -4,12 +4,13 @@ use Rattle.std.proofs.lemmas.Iterator.Consumers.{YieldsList-at, YieldsList-from_
 use Rattle.std.proofs.lemmas.List.{length_push}
 use Rattle.pictures.specs.Pictures.{shape}
 use Rattle.atoms.specs.Board.{atom_cells}
-use Rattle.atoms.proofs.Roll.{Next, on_atom, cell_turn, cell_end, length_atoms, fill_turn, fill_end}
+use Rattle.atoms.proofs.Roll.{Next, on_atom, cell_turn, cell_end, fill_turn, fill_end}
+use Rattle.atoms.specs.laws.Starting.{length_atoms}
 use Rattle.atoms.proofs.level.making.start_of.Goals as goal
 use Rattle.atoms.proofs.level.making.start_of.Goals.{In-Some}
 
--- the place of this turn is that of the next atom
-next : (c : In-Some) → Next (atom_cells (shape c.args.board.now)) (length c.loop-atom.yielded) c.in-Some.atom c.in-Some.place
+-- the cell of this turn is that of the next atom
+next : (c : In-Some) → Next (atom_cells (shape c.args.board.now)) (length c.loop-atom.yielded) c.in-Some.atom c.in-Some.cell
 next c =
     let b = shape c.args.board.now in
     cell_turn b _ _

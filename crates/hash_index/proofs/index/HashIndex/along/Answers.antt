@@ -1,14 +1,14 @@
 use Rattle.std.proofs.Common.{ℕ, ◌<◌, MatchOption, subst, sym, ◌∙◌, arith}
 use Rattle.std.specs.Prelude.{⊤}
 use Rattle.std.proofs.lemmas.Option.{MatchOption-at_some}
-use Rattle.hash_index.proofs.Shown.{length_shown}
+use Rattle.hash_index.proofs.Views.{length_index}
 use Rattle.hash_index.proofs.Largest.{largest_below, below_more}
 use Rattle.hash_index.proofs.Walking.{Ahead, begins, goes_on, finds, ends, left_fewer}
 use Rattle.hash_index.proofs.index.HashIndex.along.Goals as goal
 
 pub loop-next-init : goal.loop-next-init
 loop-next-init c = record {
-  inside = subst (λ (n : ℕ). MatchOption c.args.from ⊤ (λ place. place < n)) (length_shown c.self.inside c.args.self.now c.self.view_is) c.requires;
+  inside = subst (λ (n : ℕ). MatchOption c.args.from ⊤ (λ place. place < n)) (length_index c.self.inside c.args.self.now c.self.view_is) c.requires;
   ahead = λ n largest. begins _ _ _ n c.args.from largest;
 }
 

@@ -1,6 +1,6 @@
 use Rattle.std.proofs.Common.{ℕ, ◌<◌, MatchOption}
 use Rattle.std.specs.Prelude.{⊤}
-use Rattle.hash_index.specs.Chains.{bucket_of, IsInBucket, IsLargest}
+use Rattle.hash_index.specs.inside.Chains.{bucket_of, IsInBucket, IsLargest}
 use Rattle.hash_index.proofs.Walking.{Ahead, left}
 use Rattle.hash_index.proofs.index.HashIndex.along.Given as goal
 

@@ -1,10 +1,10 @@
 use Rattle.hash_index.proofs.Keys.{length_keys}
-use Rattle.hash_index.proofs.Shown.{length_shown}
+use Rattle.hash_index.proofs.Views.{length_index}
 use Rattle.hash_index.proofs.Largest.{largest_below}
 use Rattle.hash_index.proofs.index.HashIndex.last.Goals as goal
 
 pub along-requires : goal.along-requires
-along-requires c = rw (length_shown c.self.inside c.args.self.now c.self.view_is, c.head-head.ensures)
+along-requires c = rw (length_index c.self.inside c.args.self.now c.self.view_is, c.head-head.ensures)
     (largest_below _ _ _ (c.self.invariant.heads _ c.bucket_of.ensures.below))
 
 pub returns : goal.returns

@@ -2,7 +2,7 @@ use Rattle.std.proofs.Common.{sym, refl, arith}
 use Rattle.std.proofs.lemmas.Bool.{lt-ltb, le-ltb}
 use Rattle.hash_index.proofs.Keys.{length_keys}
 use Rattle.hash_index.proofs.Adding.{added_length, keys_added, heads_added, links_added}
-use Rattle.hash_index.proofs.Shown.{next_fits}
+use Rattle.hash_index.proofs.Views.{next_fits}
 use Rattle.hash_index.proofs.index.HashIndex.push.Goals as goal
 
 pub returns-then-place-self-clause-room : goal.returns-then-place-self-clause-room

@@ -7,7 +7,7 @@ use Rattle.std.proofs.lemmas.Iterator.Search.{all_from_yields_List}
 use Rattle.pictures.specs.declared.cell.Cell.{Cell}
 use Rattle.pictures.specs.Pictures.{shape}
 use Rattle.molecules.proofs.Counts.{cells_few}
-use Rattle.molecules.proofs.Fitting.{lies_numbered, is_place_numbered}
+use Rattle.molecules.proofs.Fitting.{lies_numbered, is_goal_place_numbered}
 use Rattle.molecules.proofs.overlay.Overlay.fits.Goals as goal
 
 pub all-requires-clause-callable : goal.all-requires-clause-callable
@@ -26,8 +26,8 @@ pub returns : goal.returns
 returns c =
     let b = shape c.args.self.now.board.now in
     let m = shape c.args.self.now.molecule.now in
-    let place = c.args.self.now.place in
-    all_from_yields_List (lies_numbered b m place) _ _ _ c.all.ensures.ran
+    let goal_place = c.args.self.now.goal_place in
+    all_from_yields_List (lies_numbered b m goal_place) _ _ _ c.all.ensures.ran
     (YieldsList-from_enumerate (YieldsList-at c.enumerate.ensures.source (YieldsList-from_slice m.cells (c.iter.ensures.rest ∙ c.cells.ensures))) c.enumerate.ensures.count)
     (λ x r q k. search (rules, tests))
-    ∙ is_place_numbered b m place
+    ∙ is_goal_place_numbered b m goal_place

@@ -1,5 +1,5 @@
 use Rattle.std.proofs.Common.{◌<◌, ◌≤◌, arith}
-use Rattle.open_list.specs.Layout.{slot_of, no_slot}
+use Rattle.open_list.specs.inside.Layout.{slot_of, no_slot}
 use Rattle.open_list.proofs.Changes.{lowered_rises, lowered_opens, lowered_leaves}
 use Rattle.open_list.proofs.heap.changing.lower.Goals as goal
 

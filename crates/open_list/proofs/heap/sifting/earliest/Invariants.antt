@@ -1,6 +1,6 @@
 use Rattle.std.proofs.Common.{◌≡◌}
-use Rattle.open_list.specs.Layout.{place_in, rank}
-use Rattle.open_list.specs.Sifting.{IsEarliest}
+use Rattle.open_list.specs.inside.Layout.{place_in, rank}
+use Rattle.open_list.specs.inside.Sifting.{IsEarliest}
 use Rattle.open_list.proofs.heap.sifting.earliest.Given as goal
 
 abbrev pub invariant-loop-slot : goal.invariant-loop-slot

@@ -1,12 +1,12 @@
 use Rattle.std.proofs.Common.{◌≡◌, ◌-◌}
-use Rattle.open_list.specs.Layout.{rank}
-use Rattle.open_list.specs.Sifting.{Sinking}
+use Rattle.open_list.specs.inside.Layout.{rank}
+use Rattle.open_list.specs.inside.Sifting.{MaySink}
 use Rattle.open_list.proofs.Sifts.{Kept}
 use Rattle.open_list.proofs.heap.sifting.sift_down.Given as goal
 
 abbrev pub invariant-loop-below : goal.invariant-loop-below
 invariant-loop-below l = record {
-  sinking : Sinking (rank l.fn.numbers) l.numbers l.sizes l.slot l.place;
+  sinking : MaySink (rank l.fn.numbers) l.numbers l.sizes l.slot l.place;
   kept : Kept l.place l.fn.numbers l.numbers l.sizes;
   own : l.own ≡ rank l.fn.numbers l.place;
 }

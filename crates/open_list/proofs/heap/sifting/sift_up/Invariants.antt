@@ -1,12 +1,12 @@
 use Rattle.std.proofs.Common.{◌≡◌}
-use Rattle.open_list.specs.Layout.{rank}
-use Rattle.open_list.specs.Sifting.{Rising}
+use Rattle.open_list.specs.inside.Layout.{rank}
+use Rattle.open_list.specs.inside.Sifting.{MayRise}
 use Rattle.open_list.proofs.Sifts.{Kept}
 use Rattle.open_list.proofs.heap.sifting.sift_up.Given as goal
 
 abbrev pub invariant-loop-later : goal.invariant-loop-later
 invariant-loop-later l = record {
-  rising : Rising (rank l.fn.numbers) l.numbers l.sizes l.slot l.place;
+  rising : MayRise (rank l.fn.numbers) l.numbers l.sizes l.slot l.place;
   kept : Kept l.place l.fn.numbers l.numbers l.sizes;
   own : l.own ≡ rank l.fn.numbers l.place;
 }

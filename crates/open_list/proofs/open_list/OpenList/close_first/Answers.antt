@@ -1,5 +1,5 @@
 use Rattle.std.proofs.Common.{◌<◌, arith}
-use Rattle.open_list.specs.Layout.{entry_at}
+use Rattle.open_list.specs.inside.Layout.{entry_at}
 use Rattle.open_list.proofs.Lists.{entry_there}
 use Rattle.open_list.proofs.open_list.OpenList.close_first.Goals as goal
 

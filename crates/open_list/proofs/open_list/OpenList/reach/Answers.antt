@@ -1,4 +1,4 @@
-use Rattle.open_list.specs.Layout.{entry_at}
+use Rattle.open_list.specs.inside.Layout.{entry_at}
 use Rattle.open_list.proofs.Lists.{entry_there}
 use Rattle.open_list.proofs.open_list.OpenList.reach.Goals as goal
 

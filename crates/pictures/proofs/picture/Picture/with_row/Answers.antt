@@ -1,6 +1,6 @@
-use Rattle.std.proofs.Common.{◌≡◌, ◌+◌, ◌*◌, ◌<◌, take, drop, None, Some, sym, ap, ◌∙◌, arith, length-set}
+use Rattle.std.proofs.Common.{◌≡◌, ◌+◌, ◌*◌, ◌<◌, take, drop, None, Some, option_map, sym, ap, ◌∙◌, arith, length-set}
 use Rattle.pictures.specs.Cells.{cell_of, cells_of}
-use Rattle.pictures.specs.Pictures.{told, shape}
+use Rattle.pictures.specs.Pictures.{shape}
 use Rattle.pictures.proofs.Drawn.{drawn}
 use Rattle.pictures.proofs.Rows.{behind, framed, row_more, row_none, row_all, row_fits, row_lettered, with_row_lem}
 use Rattle.pictures.proofs.picture.Picture.with_row.Goals as goal
@@ -11,7 +11,7 @@ returns-in_err-cells c =
     let p = c.args.self.now in
     let here = drawn c.from-in-loop-column.result None c.try_from.result c.try_from.ensures.draws c.in_err-cells.ensures.value in
     let none = sym c.loop-column.invariant.0 ∙ row_none _ _ _ c.loop-column-test.true (here ∙ ap cell_of c.from-in-loop-column.ensures) in
-    ap told c.from_residual.ensures ∙ sym (with_row_lem (shape p) _ (c.if-row-from.false ∙ c.from.ensures) (omega arith) ∙ ap (framed _ _) none)
+    ap (option_map shape) c.from_residual.ensures ∙ sym (with_row_lem (shape p) _ (c.if-row-from.false ∙ c.from.ensures) (omega arith) ∙ ap (framed _ _) none)
 
 -- the index of the next cell
 next : (c : goal.In_ok-cells) → c.cells-first.result + c.loop-column.column < 256

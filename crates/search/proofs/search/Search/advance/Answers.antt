@@ -2,7 +2,7 @@ use Rattle.std.proofs.Common.{◌≡◌, true, false, Some, None, sym, ap, subst
 use Rattle.std.proofs.lemmas.Bool.{true≢false}
 use Rattle.search_theory.specs.Steps.{State, state, Step, none, next}
 use Rattle.search_theory.specs.declared.Verdict.TheVariants.{Running}
-use Rattle.search_theory.proofs.Promise.{held_steps}
+use Rattle.search_theory.proofs.Promise.{search_invariant_steps}
 use Rattle.search.specs.Contents.{Contents, nodes_of, state_of, search_of}
 use Rattle.std.proofs.lemmas.Option.{same_Some}
 use Rattle.search.proofs.Openings.{state_as, search_as}
@@ -11,7 +11,7 @@ use Rattle.search.proofs.search.Search.advance.Goals as goal
 use Rattle.search.proofs.search.Search.advance.Goals.{then-loop-steps-test+else-is_running, else-loop-steps-test}
 
 pub loop-steps-init : goal.loop-steps-init
-loop-steps-init g c = record { opened = rw (← c.self.view_is) c.if-not-self.false; table = refl; numbers = refl; within = omega arith; idle = λ final. (refl, refl); taken = λ served. none }
+loop-steps-init g c = record { opened = rw (← c.self.view_is) c.if-not-self.false; table = refl; numbers = refl; within = omega arith; idle = λ final. (refl, refl); taken = λ all_calls. none }
 
 pub loop-steps-preserved : goal.loop-steps-preserved
 loop-steps-preserved g c = record {
@@ -20,21 +20,21 @@ loop-steps-preserved g c = record {
   numbers = c.step.ensures.numbers ∙ c.loop-steps.invariant.numbers;
   within = omega arith;
   idle = λ final. absurd (final (sym (ap (λ (x : Contents g.row.P.Denot). x.verdict) (c.loop-steps.invariant.idle final).0) ∙ c.if-is_running.ensures.0 refl));
-  taken = λ served.
+  taken = λ all_calls.
       let m = g.Z.Puzzle.meaning c.args.puzzle.now in
       let first = c.args.self.now in
       let mid = c.loop-steps.self in
       let new = c.step.new.self in
       let opened : first.opened ≡ true = rw (← c.self.view_is) c.if-not-self.false in
-      let before = c.loop-steps.invariant.taken served in
-      let held = held_steps m (g.met.Z.Puzzle.lawful c.args.puzzle.now) (search_of first) served (state (nodes_of first) first.verdict first.steps) (state_as first opened) c.loop-steps.steps (state (nodes_of mid) mid.verdict mid.steps) before in
+      let before = c.loop-steps.invariant.taken all_calls in
+      let search_invariant = search_invariant_steps m (g.met.Z.Puzzle.lawful c.args.puzzle.now) (search_of first) all_calls (state (nodes_of first) first.verdict first.steps) (state_as first opened) c.loop-steps.steps (state (nodes_of mid) mid.verdict mid.steps) before in
       let runs : mid.verdict ≡ Running = c.if-is_running.ensures.0 refl in
-      let step = c.step.ensures.steps (record { known = held.known; opened = c.loop-steps.invariant.opened; runs = runs; countable = few_steps (length first.table) mid.steps held.few (held.unended runs); busy = held.busy runs }) in
+      let step = c.step.ensures.steps (record { known = search_invariant.known; opened = c.loop-steps.invariant.opened; runs = runs; countable = few_steps (length first.table) mid.steps search_invariant.few (search_invariant.unended runs); busy = search_invariant.busy runs }) in
       rw add-one (next before (subst (λ n. Step m n (state (nodes_of mid) mid.verdict mid.steps) (state (nodes_of new) new.verdict new.steps)) c.loop-steps.invariant.table step));
 }
 
 pub returns-clause-advances : goal.returns-clause-advances
-returns-clause-advances g c = λ served.
+returns-clause-advances g c = λ all_calls.
     let first = c.args.self.now in
     let last = c.loop-steps.self in
     let h = c.loop-steps.invariant in
@@ -47,7 +47,7 @@ returns-clause-advances g c = λ served.
       last = after;
       from = state_as first opened;
       to = search_as last (search_of first) after h.table h.numbers h.opened refl;
-      steps = h.taken served;
+      steps = h.taken all_calls;
       within = h.within;
       enough = λ runs. elim c.loop-steps-test.branch [
         | then-loop-steps-test+else-is_running w ↦ absurd (true≢false (sym (w.is_running.ensures.1 runs) ∙ w.if-is_running.false))
@@ -56,8 +56,8 @@ returns-clause-advances g c = λ served.
       verdict = ap (λ x. x.verdict) c.self-2.view_is;
     }
 
-pub returns-clause-bears : goal.returns-clause-bears
-returns-clause-bears g c =
+pub returns-clause-always : goal.returns-clause-always
+returns-clause-always g c =
     let first = c.args.self.now in
     let last = c.loop-steps.self in
     let h = c.loop-steps.invariant in

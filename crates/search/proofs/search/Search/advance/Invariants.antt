@@ -1,6 +1,6 @@
 use Rattle.std.proofs.Common.{◌≡◌, ◌≤◌, ◌-◌, true, length}
 use Rattle.search_theory.specs.declared.Verdict.TheVariants.{Running}
-use Rattle.search_theory.specs.Calls.{Served}
+use Rattle.search_theory.specs.Calls.{AllCallsFor}
 use Rattle.search_theory.specs.Steps.{state, Steps}
 use Rattle.search.specs.Contents.{nodes_of, numbers_of, search_of}
 use Rattle.search.proofs.search.Search.advance.Given as goal
@@ -15,7 +15,7 @@ invariant-loop-steps g l = record {
   idle : ((l.fn.self.verdict ≡ Running → ⊥) → (l.self ≡ l.fn.self) × (l.steps ≡ 0));
   taken : (
       let m = g.Z.Puzzle.meaning l.puzzle in
-      Served m (search_of l.fn.self) → Steps m (length l.fn.self.table) (state (nodes_of l.fn.self) l.fn.self.verdict l.fn.self.steps) l.steps (state (nodes_of l.self) l.self.verdict l.self.steps)
+      AllCallsFor m (search_of l.fn.self) → Steps m (length l.fn.self.table) (state (nodes_of l.fn.self) l.fn.self.verdict l.fn.self.steps) l.steps (state (nodes_of l.self) l.self.verdict l.self.steps)
       );
 }
 

@@ -16,20 +16,20 @@ pub holds-requires : goal.holds-requires
 holds-requires g c =
     let at = key_at _ _ _ c.in-Some.place (rw (← c.self.view_is) at c.loop-candidate.invariant.keyed) c.in-Some.is in
     let inside : c.in-Some.place < length c.self.inside.index.keys = slice_get_within _ _ _ at in
-    omega (arith, c.self.invariant.sound.keyed, c.self.invariant.sound.used, c.self.invariant.sound.deep)
+    omega (arith, c.self.invariant.fit.keyed, c.self.invariant.fit.used, c.self.invariant.fit.deep)
 
 pub returns-then-holds-clause-inside : goal.returns-then-holds-clause-inside
 returns-then-holds-clause-inside g c =
     let at = key_at _ _ _ c.in-Some.place (rw (← c.self.view_is) at c.loop-candidate.invariant.keyed) c.in-Some.is in
     let inside : c.in-Some.place < length c.self.inside.index.keys = slice_get_within _ _ _ at in
-    let within : c.in-Some.place < length c.self.inside.open_list.entries = omega (arith, c.self.invariant.sound.keyed) in
+    let within : c.in-Some.place < length c.self.inside.open_list.entries = omega (arith, c.self.invariant.fit.keyed) in
     rw (← c.self.view_is) within
 
 pub returns-then-holds-clause-finds : goal.returns-then-holds-clause-finds
 unfolding nodes_of
 returns-then-holds-clause-finds g c =
     let m = g.Z.Puzzle.meaning c.args.puzzle.now in
-    let h = c.self.invariant.sound in
+    let h = c.self.invariant.fit in
     let at = key_at _ _ _ c.in-Some.place (rw (← c.self.view_is) at c.loop-candidate.invariant.keyed) c.in-Some.is in
     let inside : c.in-Some.place < length c.self.inside.index.keys = slice_get_within _ _ _ at in
     let within : c.in-Some.place < length c.self.inside.open_list.entries = omega (arith, h.keyed) in

@@ -1,5 +1,5 @@
 use Rattle.std.proofs.Common.{◌≤◌}
-use Rattle.search_theory.specs.Calls.{Served}
+use Rattle.search_theory.specs.Calls.{AllCallsFor}
 use Rattle.search.specs.Contents.{nodes_of, search_of}
 use Rattle.search.proofs.Reciting.{Reciting}
 use Rattle.search.proofs.search.Search.solution.Given as goal
@@ -10,7 +10,7 @@ invariant-loop-left g l = record {
   within : l.left ≤ l.count;
   reciting : (
       let m = g.Z.Puzzle.meaning l.puzzle in
-      Served m (search_of l.self) → Reciting m (nodes_of l.self) l.place l.left l.count l.fn.moves l.moves
+      AllCallsFor m (search_of l.self) → Reciting m (nodes_of l.self) l.place l.left l.count l.fn.moves l.moves
       );
 }
 

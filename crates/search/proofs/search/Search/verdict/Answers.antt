@@ -7,7 +7,7 @@ use Rattle.search.proofs.search.Search.verdict.Goals as goal
 pub returns : goal.returns
 unfolding nodes_of
 returns g c =
-    let h = c.self.invariant.sound in
+    let h = c.self.invariant.fit in
     let v = c.self.inside in
     let size = length-nodes v.table.places.now v.open_list.entries v.index.keys v.links.numbers.now h.keyed (omega (arith, h.used, h.deep)) (omega (arith, h.used, h.linked)) in
     rw (← c.self.view_is) (

@@ -1,12 +1,12 @@
 use Rattle.std.proofs.Common.{◌≡◌, ℕ, List, drop, get_or, Some, Option, sym, ap, ◌∙◌, arith}
 use Rattle.text.specs.declared.pieces.Token.{Token}
-use Rattle.text.specs.Pieces.{Said, said}
+use Rattle.text.specs.Pieces.{TokenValue, token_value}
 use Rattle.text.proofs.Scanning.{at_end, at_open, at_close, at_blank, at_run}
 use Rattle.text.proofs.line.Line.piece.Goals as goal
 use Rattle.text.proofs.line.Line.piece.Goals.{In_ok-byte, in-40, in-41, in_default}
 
-abbrev says : List ℕ → Token × ℕ → Option (Said × List ℕ)
-says t p = Some (said p.0, drop p.1 t)
+abbrev says : List ℕ → Token × ℕ → Option (TokenValue × List ℕ)
+says t p = Some (token_value p.0, drop p.1 t)
 
 -- the byte there
 byte : (c : In_ok-byte) → c.in_ok-byte.field-0.now ≡ get_or c.args.self.text.now c.args.self.at 0

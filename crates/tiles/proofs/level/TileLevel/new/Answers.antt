@@ -19,6 +19,7 @@ invariant_of-result c =
       wide = rw c.from.ensures at (c.is_side.ensures.decides.0 c.if-is_side.true);
       high = rw c.from-then-is_side.ensures at (c.is_side-then-is_side.ensures.decides.0 c.if-is_side-2.true);
       numbered = subst (λ (n : ℕ). Numbered n c.args.start) c.cells.ensures numbered;
+      measured = c.distance_table-distances.ensures;
     }
 
 pub returns-else-is_side : goal.returns-else-is_side

@@ -1,35 +1,34 @@
-use Rattle.std.proofs.Common.{◌≡◌, Some, None, Err, sym, ap, ◌∙◌}
-use Rattle.std.proofs.lemmas.Bool.{cond-true, cond-false}
-use Rattle.std.proofs.lemmas.Result.{err_from_is_err_and}
-use Rattle.ways.proofs.Steps.{followed_named}
+use Rattle.std.proofs.Common.{sym, ap, ◌∙◌}
+use Rattle.std.proofs.Math.Logic.{∥∥₁_elim, ∥∥₁_map}
+use Rattle.std.specs.Coded.{Coded-set, coded_bool}
+use Rattle.ways.specs.inside.Walking.{move_judgement}
+use Rattle.ways.proofs.Walking.{FollowsTo-prop, follow_reaches, follow_refused, follow_allowed}
 use Rattle.ways.proofs.walk.Walk.follow.Goals as goal
 
-pub returns-in_err-next-clause-leads : goal.returns-in_err-next-clause-leads
-returns-in_err-next-clause-leads g c =
+pub invariant_of-self-in_default : goal.invariant_of-self-in_default
+invariant_of-self-in_default g c =
     let w = c.args.self.now in
-    let k = g.K.Kind.notation w.kind.now in
-    let shut = rw c.in_err-next.ensures.ok_part at c.play.ensures.leads in
-    let named = sym c.move_number.ensures ∙ c.in_ok-number.ensures.ok_part in
-    let leads = followed_named k (g.met.K.Kind.lawful w.kind.now) w.position c.args.line c.args.written.now c.in_ok-number.number None named (sym shut) in
-    let p = err_from_is_err_and c.from_residual-in_err-next.result c.from_residual-in_err-next.ensures.1 in
-    let told = rw c.in_err-next.ensures.ok_part at c.in_err-next.ensures.value in
-    let same : c.at-2.result ≡ c.in_err-next.field-0.0 = cc in
-    rw (p.1, p.2) (sym (leads ∙ ap Err (sym c.at-2.ensures ∙ same)))
+    let z = w.level.now in
+    record {
+      reached = ∥∥₁_map w.reached (λ r. follow_reaches (g.L.Puzzle.meaning z).game (g.L.Notation.spelling z) (g.met.L.Notation.readable z) w.position _ c.args.written.now _ r (c.follow-outcome.ensures r));
+    }
 
-pub returns-then-is_goal-clause-leads : goal.returns-then-is_goal-clause-leads
-returns-then-is_goal-clause-leads g c =
+pub returns-in-Err-clause-leads : goal.returns-in-Err-clause-leads
+returns-in-Err-clause-leads g c =
     let w = c.args.self.now in
-    let k = g.K.Kind.notation w.kind.now in
-    let led = rw c.in_ok-next.ensures.ok_part at c.play.ensures.leads in
-    let named = sym c.move_number.ensures ∙ c.in_ok-number.ensures.ok_part in
-    sym (followed_named k (g.met.K.Kind.lawful w.kind.now) w.position c.args.line c.args.written.now c.in_ok-number.number (Some c.in_ok-next.next.position) named (sym led)
-    ∙ cond-true _ _ _ (sym c.is_goal.ensures ∙ c.if-is_goal.true) ∙ ap Err (sym c.at-then-is_goal.ensures))
+    let game = (g.L.Puzzle.meaning w.level.now).game in
+    let k = g.L.Notation.spelling w.level.now in
+    let follows = ∥∥₁_elim w.reached (FollowsTo-prop g.row.L-Position.coded (k.outcome w.position c.args.written.now) _ _ _) c.follow-outcome.ensures in
+    let finished = ∥∥₁_elim w.reached (Coded-set coded_bool _ _) c.is_goal.ensures in
+    let is = ap (move_judgement c.follow-outcome.result) (sym finished) ∙ sym c.judge_move.ensures ∙ c.in-Err.is in
+    rw c.at.ensures (follow_refused game k w.position _ c.args.line c.args.written.now _ follows c.in-Err.fault is)
 
 pub returns-clause-leads : goal.returns-clause-leads
 returns-clause-leads g c =
     let w = c.args.self.now in
-    let k = g.K.Kind.notation w.kind.now in
-    let led = rw c.in_ok-next.ensures.ok_part at c.play.ensures.leads in
-    let named = sym c.move_number.ensures ∙ c.in_ok-number.ensures.ok_part in
-    sym (followed_named k (g.met.K.Kind.lawful w.kind.now) w.position c.args.line c.args.written.now c.in_ok-number.number (Some c.in_ok-next.next.position) named (sym led)
-    ∙ cond-false _ _ _ (sym c.is_goal.ensures ∙ c.if-is_goal.false))
+    let game = (g.L.Puzzle.meaning w.level.now).game in
+    let k = g.L.Notation.spelling w.level.now in
+    let follows = ∥∥₁_elim w.reached (FollowsTo-prop g.row.L-Position.coded (k.outcome w.position c.args.written.now) _ _ _) c.follow-outcome.ensures in
+    let finished = ∥∥₁_elim w.reached (Coded-set coded_bool _ _) c.is_goal.ensures in
+    let is = ap (move_judgement c.follow-outcome.result) (sym finished) ∙ sym c.judge_move.ensures ∙ c.in_default.is in
+    follow_allowed game k w.position _ c.args.line c.args.written.now _ follows c.in_default.field-0 is

@@ -4,5 +4,5 @@ use Rattle.ways.proofs.walk.Walk.start.Goals as goal
 
 pub invariant_of-result : goal.invariant_of-result
 invariant_of-result g c =
-    let k = g.K.Kind.notation c.args.kind.now in
-    record { reached = ∣ subst (Reached k.game) (sym c.start.ensures) ([], here) ∣₁ }
+    let game = (g.L.Puzzle.meaning c.args.level.now).game in
+    record { reached = ∣ subst (Reached game) (sym c.start.ensures) ([], here) ∣₁ }

@@ -1,37 +1,43 @@
-use Rattle.std.proofs.Common.{◌≡◌, ◌+◌, get_or, drop, sym, ap, ◌∙◌, subst, arith}
+use Rattle.std.proofs.Common.{◌≡◌, ◌+◌, ◌∷◌, get_or, drop, Some, sym, ap, ◌∙◌, subst}
 use Rattle.std.specs.Prelude.{is_some}
 use Rattle.std.proofs.lemmas.List.{at_drop_all}
-use Rattle.pen.specs.Ink.{Writes}
-use Rattle.pen.proofs.Ink.{leads_more, leads_as, leads_end}
+use Rattle.text.proofs.Pens.{leads_more, leads_as, leads_end}
 use Rattle.text.specs.Lines.{join_lines}
-use Rattle.ways.specs.Writing.{opened, played_from, move_lines}
-use Rattle.ways.proofs.Lines.{played_more, lines_more}
+use Rattle.puzzle.specs.Game.{Played}
+use Rattle.ways.specs.Writing.{destination, last_destination, move_lines}
+use Rattle.ways.specs.inside.Walking.{WritesOpen}
+use Rattle.ways.proofs.Lines.{lines_more, next_open}
 use Rattle.ways.proofs.writing.WayText.compose_moves.Goals as goal
 
 pub loop-number-preserved : goal.loop-number-preserved
 loop-number-preserved g c =
-    let k = g.K.Kind.notation c.args.self.now.kind.now in
+    let level = c.args.self.now.level in
+    let game = (g.L.Puzzle.meaning level.now).game in
+    let k = g.L.Notation.spelling level.now in
     let ms = c.args.self.now.moves.now in
     let i = c.loop-number.number-index in
     let p = c.loop-number.walk.position in
     let m = get_or ms i 0 in
     let inv = c.loop-number.invariant in
-    let led = c.in-Some.ensures in
-    let next : i + 1 + 2 ≡ i + 2 + 1 = omega arith in
-    let on = ap (λ b. opened (g.K.Kind.notation b.now) p m) (sym inv.same) ∙ sym led.leads in
-    let wrote = c.write_move.ensures (sym (ap is_some led.leads)) in
+    let step = next_open game p ms i c.args.self.now.playable c.loop-number-test.true inv.plays in
+    let played = subst (λ b. Played (destination (g.L.Puzzle.meaning b.now).game p m) c.play.result p c.play.new.self.position) inv.same c.play.ensures.leads in
+    let moved : c.play.new.self.position ≡ step.next = (rw step.leads at played).1 in
+    let wrote = subst (λ b. WritesOpen (g.L.Puzzle.meaning b.now).game (g.L.Notation.spelling b.now) p m c.loop-number.pen c.write_move.new.pen) inv.same c.write_move.ensures in
+    let left = drop (i + 1) ms in
     record {
-      plays = ap (λ n. played_from k c.in-Some.next.position n (drop (i + 1) ms)) next ∙ sym (played_more k p (i + 2) ms i _ c.loop-number-test.true on) ∙ inv.plays;
-      same = led.same ∙ inv.same;
+      plays = ap (λ q. last_destination game q (i + 1 + 2) left) moved ∙ step.onward ∙ inv.plays;
+      same = c.play.ensures.same ∙ inv.same;
       wrote =
           leads_more
-          (leads_more (leads_as (ap join_lines (lines_more k p ms i _ c.loop-number-test.true on)) inv.wrote)
-          (subst (λ b. Writes ((g.K.Kind.notation b.now).line p m) c.loop-number.pen c.write_move.new.pen) inv.same wrote))
+          (leads_more
+          (leads_as (ap join_lines (lines_more game k p ms i (Some step.next) c.loop-number-test.true step.leads ∙ ap (λ q. k.line p m ∷ move_lines game k q left) (sym moved))) inv.wrote)
+          (wrote (ap is_some step.leads)))
           c.put.ensures;
     }
 
 pub returns : goal.returns
 returns g c =
-    let k = g.K.Kind.notation c.args.self.now.kind.now in
-    let done = at_drop_all (λ ms. join_lines (move_lines k c.loop-number.walk.position ms)) c.args.self.now.moves.now _ c.loop-number-test.false in
+    let game = (g.L.Puzzle.meaning c.args.self.now.level.now).game in
+    let k = g.L.Notation.spelling c.args.self.now.level.now in
+    let done = at_drop_all (λ ms. join_lines (move_lines game k c.loop-number.walk.position ms)) c.args.self.now.moves.now _ c.loop-number-test.false in
     leads_end (leads_as done c.loop-number.invariant.wrote)

@@ -1,2 +1,0 @@
-pub mod Meaning
-pub mod Lawful

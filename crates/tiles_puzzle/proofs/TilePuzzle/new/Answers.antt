@@ -1,5 +1,0 @@
-use Rattle.tiles_puzzle.proofs.Filling.{filled_more}
-use Rattle.tiles_puzzle.proofs.TilePuzzle.new.Goals as goal
-
-pub loop-cell-preserved : goal.loop-cell-preserved
-loop-cell-preserved c = filled_more _ _ _ _ _ _ c.loop-cell.invariant c.loop-cell-test.true c.distances_on.ensures

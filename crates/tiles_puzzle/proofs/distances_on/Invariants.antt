@@ -1,7 +1,0 @@
-use Rattle.std.proofs.Common.{◌≡◌, ℕ}
-use Rattle.tiles_puzzle.specs.Distances.{way_home}
-use Rattle.tiles_puzzle.proofs.Filling.{Filled}
-use Rattle.tiles_puzzle.proofs.distances_on.Given as goal
-
-abbrev pub invariant-loop-tile : goal.invariant-loop-tile
-invariant-loop-tile l = Filled (λ t (away : ℕ). away ≡ way_home l.width l.cell t) 16 l.tile l.distances 0

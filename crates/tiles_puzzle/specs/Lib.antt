@@ -1,4 +1,0 @@
-pub mod Distances
-pub mod Meaning
-pub mod Moving
-pub mod Lawful

@@ -1,7 +1,0 @@
-pub mod Packing
-pub mod Spelling
-pub mod Judging
-pub mod Taking
-pub mod Inking
-pub mod Forms
-pub mod RoundTrip

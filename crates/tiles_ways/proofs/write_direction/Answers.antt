@@ -1,6 +1,0 @@
--- The three texts, one after the other, are the line.
-use Rattle.pen.proofs.Ink.{writes_more}
-use Rattle.tiles_ways.proofs.write_direction.Goals as goal
-
-pub returns : goal.returns
-returns c = writes_more c.put.ensures (writes_more (rw c.word.ensures.named at c.put-2.ensures) c.put-3.ensures)
