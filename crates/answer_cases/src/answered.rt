@@ -1,11 +1,11 @@
 //! Each level with its answer.
-use answers::answer;
+use answers::Workspace;
 use judgement::judge_texts;
 use std::alloc::Global;
 use std::process::Abort;
 
 /// What is answered for a level.
-#[derive(Clone, Copy, PartialEq, Eq, Debug)]
+#[derive(Clone, Copy, Debug)]
 enum Answer {
     /// A way that the judge accepts, of so many moves.
     Way(u32),
@@ -17,22 +17,26 @@ const NONE: Answer = Answer::Text("(none)\n");
 
 const FULL: Answer = Answer::Text("(full)\n");
 
-// Each level is answered as its row says.
-fn answered_so(rt: &impl Abort, heap: Global, rows: &[(&str, Answer)]) {
+fn new_workspace(rt: &impl Abort, heap: Global) -> Workspace {
+    Workspace::new(heap).expect(rt, "there is memory")
+}
+
+// Each level is answered as its row says, one after the other in one workspace.
+fn answered_so(rt: &impl Abort, workspace: &mut Workspace, rows: &[(&str, Answer)]) {
     for (level, due) in rows {
-        let answer = answer(heap, level.as_bytes()).expect(rt, "there is memory");
+        let answer = workspace.answer(level.as_bytes());
         match due {
             Answer::Way(moves) => assert_eq!(rt;
-                judge_texts(level.as_bytes(), &answer),
-                Ok(*moves),
+                judge_texts(level.as_bytes(), answer).ok(),
+                Some(*moves),
                 "{level}"
             ),
-            Answer::Text(text) => assert!(rt; answer.as_slice() == text.as_bytes(), "{level}"),
+            Answer::Text(text) => assert!(rt; answer == text.as_bytes(), "{level}"),
         }
     }
 }
 
-static TILES: [(&str, Answer); 12] = [
+static TILES: [(&str, Answer); 14] = [
     ("(tiles 2 2\n(row 1 2)\n(row 3 0)\n)\n", Answer::Way(0)),
     (
         "(tiles 2 2\n(row 1 2)\n(row 0 3)\n)\n",
@@ -66,14 +70,23 @@ static TILES: [(&str, Answer); 12] = [
         "(tiles 4 4\n(row 1 2 3 4)\n(row 5 6 7 8)\n(row 9 10 11 12)\n(row 13 15 14 0)\n)\n",
         FULL,
     ),
+    // Long ways.
+    (
+        "(tiles 3 3\n(row 2 6 0)\n(row 5 3 1)\n(row 8 7 4)\n)\n",
+        Answer::Way(20),
+    ),
+    (
+        "(tiles 3 3\n(row 1 0 6)\n(row 7 8 3)\n(row 5 4 2)\n)\n",
+        Answer::Way(23),
+    ),
 ];
 
 #[test]
 fn answers_tiles(rt: HostRuntime) {
-    answered_so(&rt, rt.alloc(), &TILES);
+    answered_so(&rt, &mut new_workspace(&rt, rt.alloc()), &TILES);
 }
 
-static ATOMS: [(&str, Answer); 9] = [
+static ATOMS: [(&str, Answer); 11] = [
     (
         "(atomix 3 2\n(row A..)\n(row #.B)\n(want A)\n(want B)\n)\n",
         Answer::Text("(way 1\n(move 0 0 right)\n)\n"),
@@ -101,11 +114,21 @@ static ATOMS: [(&str, Answer); 9] = [
         "(atomix 16 1\n(row A..............B)\n(want AB)\n)\n",
         Answer::Way(1),
     ),
+    // A long way.
+    (
+        "(atomix 5 8\n(row .#...)\n(row ...#.)\n(row .###.)\n(row ..##.)\n(row ..#..)\n(row .#B..)\n(row ...#.)\n(row A#...)\n(want AB)\n)\n",
+        Answer::Way(24),
+    ),
+    // The longest text of a level.
+    (
+        "(atomix 16 16\n(row ...............A)\n(row ................)\n(row ................)\n(row ................)\n(row ................)\n(row ................)\n(row ................)\n(row ................)\n(row ................)\n(row ................)\n(row ................)\n(row ................)\n(row ................)\n(row ................)\n(row ................)\n(row B...............)\n(want A...............)\n(want ................)\n(want ................)\n(want ................)\n(want ................)\n(want ................)\n(want ................)\n(want ................)\n(want ................)\n(want ................)\n(want ................)\n(want ................)\n(want ................)\n(want ................)\n(want ................)\n(want ...............B)\n)\n",
+        Answer::Way(2),
+    ),
 ];
 
 #[test]
 fn answers_atoms(rt: HostRuntime) {
-    answered_so(&rt, rt.alloc(), &ATOMS);
+    answered_so(&rt, &mut new_workspace(&rt, rt.alloc()), &ATOMS);
 }
 
 static FAULTS: [(&str, Answer); 11] = [
@@ -134,5 +157,30 @@ static FAULTS: [(&str, Answer); 11] = [
 
 #[test]
 fn answers_faults(rt: HostRuntime) {
-    answered_so(&rt, rt.alloc(), &FAULTS);
+    answered_so(&rt, &mut new_workspace(&rt, rt.alloc()), &FAULTS);
+}
+
+#[test]
+fn answers_all_kinds_in_turn(rt: HostRuntime) {
+    let mut workspace = new_workspace(&rt, rt.alloc());
+    answered_so(&rt, &mut workspace, &ATOMS);
+    answered_so(&rt, &mut workspace, &FAULTS);
+    answered_so(&rt, &mut workspace, &TILES);
+}
+
+// The most bytes that a text may have.
+const MOST_BYTES: usize = 4_096;
+
+const FINISHED: &str = "(tiles 2 2\n(row 1 2)\n(row 3 0)\n)\n";
+
+// A level and one long line after it, which ends with the longest text; and one line end more, which is too much.
+#[test]
+fn answers_long_texts(rt: HostRuntime) {
+    let mut text = [b'x'; MOST_BYTES + 1];
+    text[..FINISHED.len()].copy_from_slice(FINISHED.as_bytes());
+    text[MOST_BYTES - 1] = b'\n';
+    text[MOST_BYTES] = b'\n';
+    let mut workspace = new_workspace(&rt, rt.alloc());
+    assert!(&rt; workspace.answer(&text[..MOST_BYTES]) == "(fault 12 5)\n".as_bytes());
+    assert!(&rt; workspace.answer(&text) == "(fault 11 0)\n".as_bytes());
 }

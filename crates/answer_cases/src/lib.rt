@@ -3,3 +3,5 @@
 
 #[cfg(test)]
 mod answered;
+#[cfg(test)]
+mod streamed;

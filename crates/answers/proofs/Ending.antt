@@ -1,105 +1,118 @@
 -- A search that is opened and advanced once, to its end. Assumes nothing.
-use Rattle.std.proofs.Common.{◌≡◌, refl, sym, ap, subst, ◌∙◌, arith, ℕ, ◌+◌, ◌*◌, ◌<◌, ◌≤◌, List, [], ◌∷◌, Some, None, Ok, Err, Result}
+use Rattle.std.proofs.Common.{◌≡◌, refl, sym, ap, subst, ◌∙◌, arith, ℕ, ◌*◌, ◌<◌, ◌≤◌, List, [], ◌∷◌, Some, None, Ok, Err, Result}
 use Rattle.std.specs.Result.{IsOk}
 use Rattle.std.proofs.lemmas.Option.{same_Some, none-some}
 use Rattle.refusals.specs.declared.Fault.{Fault}
-use Rattle.puzzle.specs.Game.{Finishes, CanReach}
-use Rattle.puzzle.specs.Meaning.{Meaning}
+use Rattle.puzzle.specs.Meaning.{Meaning, Lawful}
 use Rattle.search_theory.specs.declared.Verdict.{Verdict}
 use Rattle.search_theory.specs.declared.Verdict.TheVariants.{Running, Solved, Unsolvable, TableFull}
 use Rattle.search_theory.specs.declared.Advance.{Advance}
-use Rattle.search_theory.specs.Steps.{State}
-use Rattle.search_theory.specs.Calls.{Search, new_search, refusal_in, recite_refusal, Opens, Advances, AdvancesBy, Recites, Call, opening, advance, Run, none, then, AllCallsFor}
-use Rattle.search_theory.specs.Promise.{Right, Promise}
+use Rattle.search_theory.specs.Steps.{State, Steps, first_state}
+use Rattle.search_theory.specs.Calls.{Search, new_search, refusal_in, recite_refusal, Opens, Advances, AdvancesBy, RecitesWay, Recites, opening, advance, AllCallsFor}
+use Rattle.search_theory.specs.Promise.{Says, Right, Stands, StandsAfter}
 use Rattle.search_theory.proofs.Calling.{may_recite}
-use Rattle.answers.specs.declared.solving.Found.TheVariants.{Way}
-use Rattle.answers.specs.inside.Solving.{Finds}
+use Rattle.search_theory.proofs.Ending.{ends_unique}
+use Rattle.answers.specs.Answers.{places}
+use Rattle.answers.specs.inside.Solving.{Leaves, Finds}
 
 -- no refusal: an answer
 pub unrefused : {A : Type 0} (r : Result A Fault) → refusal_in r ≡ None → IsOk r
 unrefused {A} (Ok a) e = refl
 unrefused {A} (Err f) e = absurd (none-some f (sym e))
 
-module _ {P : Type 0} (m : Meaning P) (first opened : Search P) (places numbers : ℕ) (new : first ≡ new_search places numbers) (u : Unit {0}) (opens : Opens m first (Ok u) opened) where
-  opening_run : Run m (new_search places numbers) (opening (Ok u) ∷ []) opened
-  opening_run = subst (λ s. Run m s (opening (Ok u) ∷ []) opened) new (then none opens)
+-- a search of a lawful puzzle was opened, and advanced by a budget that is enough for every search
+pub record Ended {P : Type 0} (m : Meaning P) (M : ℕ) (first opened last : Search P) (u : Unit {0}) (answer : Advance) (budget : ℕ) : Type 0 where
+  pub lawful : Lawful m
+  pub fresh : first ≡ new_search places (8 * places)
+  pub opens : Opens m first (Ok u) opened
+  pub advances : AdvancesBy m budget opened answer last
+  pub enough : places * places ≤ budget
+  pub stands : Stands m M (advance budget (Ok answer) ∷ opening (Ok u) ∷ []) last
 
-  -- after the opening only calls for this puzzle were made
-  opened_calls : AllCallsFor m opened
-  opened_calls = record { places = places; numbers = numbers; calls = opening (Ok u) ∷ []; run = opening_run }
+module _ {P : Type 0} {m : Meaning P} {M : ℕ} {first opened last : Search P} {u : Unit {0}} {answer : Advance} {budget : ℕ} (e : Ended m M first opened last u answer budget) where
+  abbrev state : State P
+  state = e.advances.last
 
-  module _ (promise : Promise m) (budget : ℕ) (answer : Advance) (last : Search P) (advances : AdvancesBy m budget opened answer last) where
-    abbrev calls : List Call
-    calls = advance budget (Ok answer) ∷ opening (Ok u) ∷ []
+  state_is : last.state ≡ Some state
+  state_is = ap (λ (s : Search P). s.state) e.advances.to
 
-    run : Run m (new_search places numbers) calls last
-    run = then opening_run advances
+  opened_places : opened.places ≡ places
+  opened_places = ap (λ (s : Search P). s.places) e.opens.1 ∙ ap (λ (s : Search P). s.places) e.fresh
 
-    -- and after the advance too
-    ended_calls : AllCallsFor m last
-    ended_calls = record { places = places; numbers = numbers; calls = calls; run = run }
+  places_are : last.places ≡ places
+  places_are = ap (λ (s : Search P). s.places) e.advances.to ∙ opened_places
 
-    state_is : last.state ≡ Some advances.last
-    state_is = ap (λ (s : Search P). s.state) advances.to
+  right : Right m M (advance budget (Ok answer) ∷ opening (Ok u) ∷ []) last state
+  right = e.stands.right state state_is
 
-    places_are : last.places ≡ places
-    places_are = ap (λ (s : Search P). s.places) (advances.to) ∙ ap (λ (s : Search P). s.places) opens.1 ∙ ap (λ (s : Search P). s.places) new
+  verdict_is : (v : Verdict) → answer.verdict ≡ v → state.verdict ≡ v
+  verdict_is v is = sym e.advances.verdict ∙ is
 
-    right : Right m calls last advances.last
-    right = promise places numbers calls last run advances.last state_is
+  final : state.verdict ≡ Running → ⊥
+  final runs =
+      let steps : state.steps ≡ answer.steps = (let counted = right.counted in omega arith) in
+      let all = e.advances.enough runs in
+      let few : state.steps < places * places = subst (λ n. state.steps < n * n) places_are (right.ends runs) in
+      let enough = e.enough in
+      omega arith
 
-    verdict_is : (v : Verdict) → answer.verdict ≡ v → advances.last.verdict ≡ v
-    verdict_is v is = sym advances.verdict ∙ is
+  steps : Steps m places (first_state m places) answer.steps state
+  steps =
+      let started : e.advances.first ≡ first_state m places =
+      same_Some e.advances.first (first_state m places)
+      (sym e.advances.from ∙ ap (λ (s : Search P). s.state) e.opens.1 ∙ ap (λ (s : Search P). Some (first_state m s.places)) e.fresh) in
+      subst (λ n. Steps m n (first_state m places) answer.steps state) opened_places
+      (subst (λ t. Steps m opened.places t answer.steps state) started e.advances.steps)
 
-    -- a budget of as many steps as places multiplied by themselves ends every search
-    ended : places * places ≤ budget → answer.verdict ≡ Running → ⊥
-    ended enough runs =
-        let steps : advances.last.steps ≡ answer.steps = (let counted = right.counted in omega arith) in
-        let all = advances.enough (verdict_is Running runs) in
-        let few : advances.last.steps < places * places = subst (λ n. advances.last.steps < n * n) places_are (right.ends (verdict_is Running runs)) in
-        omega arith
+  says : (v : Verdict) → answer.verdict ≡ v → Says m places v
+  says v is = subst (λ n. Says m n v) places_are (subst (Says m last.places) (verdict_is v is) right.says)
 
-    nothing_solves : answer.verdict ≡ Unsolvable → (moves : List ℕ) → Finishes m.game m.game.start moves → ⊥
-    nothing_solves is = right.unsolvable (verdict_is Unsolvable is)
+  -- a list of as many numbers as places has room for the moves
+  pub recited : (n room : ℕ) → answer.verdict ≡ Solved n → places ≤ room → recite_refusal last room ≡ None
+  recited n room is enough =
+      let few = (says (Solved n) is).1 in
+      may_recite last state n room state_is (verdict_is (Solved n) is) (omega arith)
 
-    too_many : answer.verdict ≡ TableFull → CanReach m.game (places + 1)
-    too_many is = subst (λ n. CanReach m.game (n + 1)) places_are (right.full (verdict_is TableFull is))
+  -- and what is recited are as many moves as the verdict says
+  pub recites : (n k : ℕ) (before after : List ℕ) → answer.verdict ≡ Solved n → Recites m last before (Ok k) after → RecitesWay m n before after
+  recites n k before after is recital =
+      let t = recital.1 in
+      let solved : state.verdict ≡ Solved k = ap (λ (x : State P). x.verdict) (same_Some state t.0 (sym state_is ∙ t.1)) ∙ t.2 in
+      let said : state.verdict ≡ Solved n = verdict_is (Solved n) is in
+      let same : k ≡ n = cc in
+      subst (λ i. RecitesWay m i before after) same recital.2
 
-    -- a list of as many numbers as places has room for the moves
-    recited : (n room : ℕ) → answer.verdict ≡ Solved n → places ≤ room → recite_refusal last room ≡ None
-    recited n room is enough =
-        let short : n < places = subst (λ k. n < k) places_are (right.short n (verdict_is (Solved n) is)) in
-        may_recite last advances.last n room state_is (verdict_is (Solved n) is) (omega arith)
+  leaves : (v : Verdict) → answer.verdict ≡ v → (before after : List ℕ) → ((n : ℕ) → answer.verdict ≡ Solved n → RecitesWay m n before after) → Leaves m v before after
+  leaves Running is before after way = final (verdict_is Running is)
+  leaves (Solved n) is before after way = way n is
+  leaves Unsolvable is before after way = tt
+  leaves TableFull is before after way = tt
 
-    solves : (n : ℕ) (before after : List ℕ) → Recites m last before (Ok n) after → Finds m places before (Way n) after
-    solves n before after recites =
-        let t = recites.1 in
-        let solved : advances.last.verdict ≡ Solved n = ap (λ (x : State P). x.verdict) (same_Some advances.last t.0 (sym state_is ∙ t.1)) ∙ t.2 in
-        (subst (λ k. n < k) places_are (right.short n solved), recites.2, right.shortest n solved)
+  pub finds : (before after : List ℕ) → ((n : ℕ) → answer.verdict ≡ Solved n → RecitesWay m n before after) → Finds m answer.verdict before after
+  finds before after way = record {
+    last = state;
+    ends = record { count = answer.steps; steps = steps; final = final };
+    only = λ other ends. ends_unique m places e.lawful (omega arith) ends.count answer.steps other state ends.steps ends.final steps final;
+    verdict_is = sym e.advances.verdict;
+    means = says answer.verdict refl;
+    leaves = leaves answer.verdict refl before after way;
+  }
 
--- what is known after the advance
-pub record Ended {P : Type 0} (m : Meaning P) (places : ℕ) (verdict : Verdict) (last : Search P) : Type 0 where
-  pub all_calls : AllCallsFor m last
-  pub final : verdict ≡ Running → ⊥
-  pub nothing_solves : verdict ≡ Unsolvable → (moves : List ℕ) → Finishes m.game m.game.start moves → ⊥
-  pub too_many : verdict ≡ TableFull → CanReach m.game (places + 1)
-  pub recited : (n room : ℕ) → verdict ≡ Solved n → places ≤ room → recite_refusal last room ≡ None
-  pub solves : (n : ℕ) (before after : List ℕ) → Recites m last before (Ok n) after → Finds m places before (Way n) after
-
-pub ends : {P : Type 0} (m : Meaning P) (places budget : ℕ) (first opened last : Search P) (r : Result (Unit {0}) Fault) (u : Unit {0}) (q : Result Advance Fault) (answer : Advance)
-    → first ≡ new_search places (8 * places) → r ≡ Ok u → Opens m first r opened → Promise m → q ≡ Ok answer → (AllCallsFor m opened → Advances m budget opened q last) → places * places ≤ budget
-    → Ended m places answer.verdict last
-ends {P} m places budget first opened last r u q answer new r_is opens promise q_is advances enough =
-    let opened_well = subst (λ x. Opens m first x opened) r_is opens in
-    let all_calls = opened_calls m first opened places (8 * places) new u opened_well in
-    let by = subst (λ x. Advances m budget opened x last) q_is (advances all_calls) in
+-- the calls as their contracts tell them
+pub ended : {P : Type 0} (m : Meaning P) (M : ℕ) (lawful : Lawful m) {first : Search P} (opened last : Search P) {r : Result (Unit {0}) Fault} {u : Unit {0}} {q : Result Advance Fault} {answer : Advance} (budget : ℕ)
+    → first ≡ new_search places (8 * places) → ((all_calls : AllCallsFor m first) × (all_calls.calls ≡ [])) → r ≡ Ok u → Opens m first r opened → StandsAfter m M first (opening r) opened
+    → q ≡ Ok answer → (AllCallsFor m opened → Advances m budget opened q last) → StandsAfter m M opened (advance budget q) last → places * places ≤ budget → Ended m M first opened last u answer budget
+ended m M lawful {first = first} opened last {r = r} {u = u} {q = q} {answer = answer} budget fresh uncalled r_is opens opened_stands q_is advances advanced_stands enough =
+    let before = opened_stands uncalled.0 in
+    let calls = before.latest ∙ ap (λ x. opening x ∷ uncalled.0.calls) r_is ∙ ap (λ cs. opening (Ok u) ∷ cs) uncalled.1 in
+    let all = ap (λ x. advance budget x ∷ before.all_calls.calls) q_is ∙ ap (λ cs. advance budget (Ok answer) ∷ cs) calls in
     record {
-      all_calls = ended_calls m first opened places (8 * places) new u opened_well promise budget answer last by;
-      final = ended m first opened places (8 * places) new u opened_well promise budget answer last by enough;
-      nothing_solves = nothing_solves m first opened places (8 * places) new u opened_well promise budget answer last by;
-      too_many = too_many m first opened places (8 * places) new u opened_well promise budget answer last by;
-      recited = recited m first opened places (8 * places) new u opened_well promise budget answer last by;
-      solves = solves m first opened places (8 * places) new u opened_well promise budget answer last by;
+      lawful = lawful;
+      fresh = fresh;
+      opens = subst (λ x. Opens m first x opened) r_is opens;
+      advances = subst (λ x. Advances m budget opened x last) q_is (advances before.all_calls);
+      enough = enough;
+      stands = subst (λ cs. Stands m M cs last) all (advanced_stands before.all_calls);
     }
 
 pub new_as : {P : Type 0} (s : Search P) (a b c d : ℕ) → s ≡ new_search a b → a ≡ c → b ≡ d → s ≡ new_search c d

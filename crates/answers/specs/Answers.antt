@@ -1,10 +1,13 @@
 -- The answer to a level's text, and what it means for the level. Assumes nothing.
-use Rattle.std.specs.Prelude.{◌≡◌, ℕ, ◌+◌, ◌≤◌, List, ◌++◌, length, Ok, Err, codes}
-use Rattle.refusals.specs.declared.Refusal.{Refusal}
-use Rattle.refusals.specs.Refusals.{refusal_text}
-use Rattle.puzzle.specs.Game.{Game, Finishes, CanReach}
-use Rattle.levels.specs.Levels.{Level, rules, read_level}
-use Rattle.judgement.specs.Judgement.{judgement_of_texts}
+use Rattle.std.specs.Prelude.{◌≡◌, ℕ, List, Ok, Err, codes}
+use Rattle.refusals.specs.Refusals.{refusal_line}
+use Rattle.puzzle.specs.Meaning.{Meaning}
+use Rattle.search_theory.specs.declared.Verdict.{Verdict}
+use Rattle.search_theory.specs.declared.Verdict.TheVariants.{Running, Solved, Unsolvable, TableFull}
+use Rattle.search_theory.specs.Steps.{State, Steps, first_state}
+use Rattle.search_theory.specs.Promise.{Says}
+use Rattle.levels.specs.Levels.{Rules, rules, read_level}
+use Rattle.judgement.specs.Judgement.{judgement_by}
 
 -- how many places the search's table has
 abbrev pub places : ℕ
@@ -16,25 +19,32 @@ none_text = codes "(none)\n"
 abbrev pub full_text : List ℕ
 full_text = codes "(full)\n"
 
-abbrev pub fault_text : Refusal → List ℕ
-fault_text e = refusal_text e ++ codes "\n"
+-- the steps of the search over the table end in this state
+pub record Ends {P : Type 0} (m : Meaning P) (last : State P) : Type 0 where
+  pub count : ℕ
+  pub steps : Steps m places (first_state m places) count last
+  pub final : last.verdict ≡ Running → ⊥
 
-module _ {P : Type 0} (g : Game P) where
-  -- no legal moves that finish are fewer
-  abbrev pub NoFewer : ℕ → Type 0
-  NoFewer n = (moves : List ℕ) → Finishes g g.start moves → n ≤ length moves
+-- What the answer is, by the verdict.
+abbrev pub Tells : Rules → Verdict → List ℕ → Type 0
+-- a way of n moves that the judge accepts
+Tells r (Solved n) answer = judgement_by r answer ≡ Ok n
+-- `(none)`
+Tells r Unsolvable answer = answer ≡ none_text
+-- `(full)`
+Tells r TableFull answer = answer ≡ full_text
+-- no answer is given before the end
+Tells r Running answer = ⊥
 
-  -- no legal moves finish
-  abbrev pub NoWay : Type 0
-  NoWay = (moves : List ℕ) → Finishes g g.start moves → ⊥
+-- The answer for a level by its rules: it tells the verdict of the one state in which the steps of the search end. What
+-- that means for the level: no way is shorter, there is none, or more positions can be reached than there are places.
+pub record Settles (r : Rules) (answer : List ℕ) : Type 0 where
+  pub last : State r.Position
+  pub ends : Ends r.meaning last
+  pub only : (other : State r.Position) → Ends r.meaning other → other ≡ last
+  pub tells : Tells r last.verdict answer
+  pub means : Says r.meaning places last.verdict
 
--- What the answer to a text is.
-pub data Answers (text answer : List ℕ) : Type 0 where
-  -- a way that the judge accepts for the level, and no legal moves that finish are fewer
-  way : (level : Level) (n : ℕ) → read_level text ≡ Ok level → judgement_of_texts text answer ≡ Ok n → NoFewer (rules level).game n → Answers text answer
-  -- `(none)`: no legal moves finish
-  none : (level : Level) → read_level text ≡ Ok level → answer ≡ none_text → NoWay (rules level).game → Answers text answer
-  -- `(full)`: more positions can be reached than the table has places
-  full : (level : Level) → read_level text ≡ Ok level → answer ≡ full_text → CanReach (rules level).game (places + 1) → Answers text answer
-  -- `(fault NUMBER LINE)`: the text is no level
-  fault : (e : Refusal) → read_level text ≡ Err e → answer ≡ fault_text e → Answers text answer
+-- The answer to a text: for the level that it spells, or the refusal `(fault NUMBER LINE)`.
+abbrev pub Answers : List ℕ → List ℕ → Type 0
+Answers text answer = elim (read_level text) [ Ok l ↦ Settles (rules l) answer | Err e ↦ answer ≡ refusal_line e ]

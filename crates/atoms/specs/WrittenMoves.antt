@@ -1,11 +1,12 @@
 -- How moves of atom levels are written: `(move R C right)` slides the atom on row R and column C. Assumes nothing.
-use Rattle.std.specs.Prelude.{ℕ, ◌+◌, ◌*◌, ◌/◌, ◌%◌, cond, ◌&&◌, List, [], ◌∷◌, ◌++◌, Some, None, Err, codes, decimal, Option, Result, slice_index}
+use Rattle.std.specs.Prelude.{ℕ, ◌+◌, ◌*◌, ◌/◌, ◌%◌, cond, ◌&&◌, List, [], ◌∷◌, ◌++◌, Some, None, Err, codes, decimal, Option, Result, nat_lt, slice_index}
+use Rattle.grid.specs.declared.Coordinates.{Coordinates}
 use Rattle.grid.specs.declared.Direction.{Direction}
-use Rattle.grid.specs.Grid.{number_of, direction_of, word_of, of_word, row, column}
+use Rattle.grid.specs.Grid.{number_of, direction_of, word_of, of_word, coordinates_of}
 use Rattle.text.specs.Forms.{◌then◌, is_short, number_in, word_in, last_only, arguments_of, arguments_line}
 use Rattle.atoms.specs.declared.position.Position.{Position}
 use Rattle.atoms.specs.declared.notation.AtomMove.{AtomMove}
-use Rattle.atoms.specs.Level.{Atoms, destination}
+use Rattle.atoms.specs.Level.{Atoms, count, destination}
 use Rattle.atoms.specs.Moves.{atom_at}
 use Rattle.ways.specs.declared.notation.IllegalMove.{IllegalMove}
 use Rattle.ways.specs.declared.notation.IllegalMove.TheVariants.{NothingThere}
@@ -34,10 +35,11 @@ move_text m =
     arguments_line (codes "move")
     (32 ∷ (decimal m.from.row ++ (32 ∷ (decimal m.from.column ++ (32 ∷ word_of m.direction)))))
 
--- the line of the move of an atom on a cell of a board w cells wide
-abbrev pub line_of : ℕ → ℕ → Option Direction → List ℕ
-line_of w cell (Some d) = move_text (move_of (row w cell) (column w cell) d)
-line_of w cell None = []
+-- the line of the move of an atom from where it stands; nothing where it stands on no cell of the board
+abbrev pub line_from : Option Coordinates → Option Direction → List ℕ
+line_from (Some from) (Some d) = move_text (record { from = from; direction = d })
+line_from (Some from) None = []
+line_from None way = []
 
 module _ (l : Atoms) where
   -- where the slide of an atom leads, if one stands there
@@ -45,9 +47,15 @@ module _ (l : Atoms) where
   outcome_by p d (Some a) = outcome_of (destination l p (4 * a + number_of d))
   outcome_by p d None = Err NothingThere
 
+  -- the line of move 4 × atom + direction, open or closed; nothing where the level lacks the atom
+  abbrev pub line_of : Position → ℕ → List ℕ
+  line_of p m =
+      cond (nat_lt (m / 4) (count l))
+      (line_from (coordinates_of l.board.width l.board.height (slice_index p.cells (m / 4))) (direction_of (m % 4))) []
+
   abbrev pub spelling : Spelling Position AtomMove
   spelling = record {
     reading = move_in;
     outcome = λ p m. outcome_by p m.direction (atom_at l p m.from);
-    line = λ p m. line_of l.board.width (slice_index p.cells (m / 4)) (direction_of (m % 4));
+    line = line_of;
   }

@@ -5,5 +5,6 @@ pub mod Opening
 pub mod Finding
 pub mod Standing
 pub mod Spelling
+pub mod Equal
 pub mod Lawful
 pub mod Readable

@@ -7,6 +7,7 @@ ghost use Rattle.atoms.specs.laws.Lawful;
 
 use crate::level::AtomLevel;
 use crate::position::Position;
+use equality::same;
 use grid::Direction;
 use puzzle::{Puzzle, key_of, mix};
 use slides::CellSet;
@@ -76,16 +77,22 @@ impl Puzzle for AtomLevel {
         found
     }
 
-    fn lower_bound(&self, _at: &Position) -> Option<u16> {
+    fn lower_bound(&self, _at: &Position) -> Option<u16>
+        ensures { result ≡ (meaning (atoms self.now)).lower_bound _at.now }
+    {
         Some(0)
     }
 
-    fn key(&self, at: &Position) -> u32 {
+    fn key(&self, at: &Position) -> u32
+        ensures { result ≡ (meaning (atoms self.now)).key at.now }
+    {
         let cells = at.cells.iter();
         key_of(cells.fold(0, |sum, cell| mix(sum, u64::from(*cell))))
     }
 
-    fn is_same(&self, one: &Position, other: &Position) -> bool {
-        one == other
+    fn is_same(&self, one: &Position, other: &Position) -> bool
+        ensures { result ≡ (meaning (atoms self.now)).same one.now other.now }
+    {
+        same(one, other)
     }
 }

@@ -13,7 +13,7 @@ use text::{Line, forms};
 use ways::{IllegalMove, Notation};
 
 /// A move as it is written: where the atom stands, and where it slides.
-#[derive(Clone, Copy, Debug, PartialEq, Eq)]
+#[derive(Clone, Copy, Debug)]
 pub struct AtomMove {
     pub from: Coordinates,
     pub direction: Direction,
@@ -77,7 +77,7 @@ impl Notation for AtomLevel {
 
     fn write_move(&self, at: &Position, number: u32, pen: &mut Pen) {
         let atom = (number / Direction::COUNT) as usize;
-        let Some(cell) = at.cells.get(atom) else {
+        let Some(cell) = self.standing(at).get(atom) else {
             return;
         };
         let Some(from) = self.board.grid().coordinates(usize::from(*cell)) else {

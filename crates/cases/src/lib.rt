@@ -6,6 +6,8 @@ mod atom_cases;
 #[cfg(test)]
 mod atom_puzzles;
 #[cfg(test)]
+mod reports;
+#[cfg(test)]
 mod said;
 #[cfg(test)]
 mod tile_cases;

@@ -53,12 +53,14 @@ fn follows_written_moves(rt: HostRuntime) {
     let level = level_at(&rt, 3, 3, 0x687054321);
     let start = level.start();
     let mut next = start;
-    assert_eq!(rt;
-        level.follow(&start, &Direction::Right, &mut next),
-        Err(IllegalMove::Closed)
+    assert!(rt;
+        matches!(
+            level.follow(&start, &Direction::Right, &mut next),
+            Err(IllegalMove::Closed)
+        )
     );
     assert_eq!(rt; next, start);
-    assert_eq!(rt; level.follow(&start, &Direction::Down, &mut next), Ok(()));
+    assert!(rt; level.follow(&start, &Direction::Down, &mut next).is_ok());
     assert_eq!(rt; next, 0x087654321);
 }
 

@@ -6,7 +6,7 @@ ghost use Rattle.grid.specs.Grid.{word_of, coordinates_of, cell_at, neighbour};
 ghost use Rattle.grid.specs.Grid.{SaysNumber, SaysWord, IsNumberOf, WordReadsBack, CoordinatesReadBack, CellReadsBack, StepsOn};
 
 /// One of the four ways along a row or a column.
-#[derive(Clone, Copy, Debug, PartialEq, Eq)]
+#[derive(Clone, Copy, Debug)]
 pub enum Direction {
     Up = 0,
     Down = 1,
@@ -15,7 +15,7 @@ pub enum Direction {
 }
 
 /// A number or a word that names no direction.
-#[derive(Clone, Copy, Debug, PartialEq, Eq)]
+#[derive(Clone, Copy, Debug)]
 pub struct UnknownDirection;
 
 impl Direction {
@@ -85,14 +85,14 @@ impl<'a> TryFrom<&'a [u8]> for Direction {
 }
 
 /// A board's size. Its cells are numbered from 0 in reading order: rows from the top, each from the left.
-#[derive(Clone, Copy, Debug, PartialEq, Eq)]
+#[derive(Clone, Copy, Debug)]
 pub struct Grid {
     pub width: u8,
     pub height: u8,
 }
 
 /// A row of a board and a column, both from 0.
-#[derive(Clone, Copy, Debug, PartialEq, Eq)]
+#[derive(Clone, Copy, Debug)]
 pub struct Coordinates {
     pub row: usize,
     pub column: usize,

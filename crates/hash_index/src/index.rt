@@ -3,7 +3,7 @@ use std::marker::Model;
 
 mod calls;
 
-/// The keys of the places of a search, over lent numbers, three for each place.
+/// The keys of the places of a search, over lent numbers, three for each place. What stands in them is free.
 #[derive(Drop)]
 pub struct HashIndex<'a> {
     chains: Chains<'a>,

@@ -4,18 +4,20 @@
 //! a stream that fails, want of memory, or a wrong call ends with status 1, and standard error says why.
 #![tactic(auto)]
 
-use judgement::{judge_texts, report};
+use judgement::judge_streams;
 use std::process::ExitCode;
-use streams::{Failure, arguments, end, end_with_usage, read_path, write_answer};
+use streams::{Failure, PathSource, arguments, end, end_with_usage, standard_output};
 
 /// The program's name, under which it says what failed.
 const NAME: &str = "judge";
 
-fn judge_files<'a>(rt: &HostRuntime, level: &'a str, way: &'a str) -> Result<(), Failure<'a>> {
-    let level_text = read_path(rt, level)?;
-    let way_text = read_path(rt, way)?;
-    let answer = report(rt.alloc(), judge_texts(&level_text, &way_text))?;
-    write_answer(rt, answer.as_bytes())
+fn judge_paths<'a>(rt: &HostRuntime, level: &'a str, way: &'a str) -> Result<(), Failure<'a>> {
+    judge_streams(
+        rt.alloc(),
+        PathSource::new(rt, level),
+        PathSource::new(rt, way),
+        &mut standard_output(rt),
+    )
 }
 
 fn main(rt: HostRuntime) -> ExitCode {
@@ -26,6 +28,6 @@ fn main(rt: HostRuntime) -> ExitCode {
     let (Some(level), Some(way), None) = (args.next(), args.next(), args.next()) else {
         return end_with_usage(&rt, "judge LEVEL WAY");
     };
-    let outcome = judge_files(&rt, &level, &way);
+    let outcome = judge_paths(&rt, &level, &way);
     end(&rt, NAME, outcome)
 }

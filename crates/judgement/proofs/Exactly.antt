@@ -20,7 +20,7 @@ module _ (way : List ℕ) (n : ℕ) where
         level = l;
         valid = level.0;
         spelled = level.1;
-        accepted = (accepts_exactly r.game r.spelling (readable l level.0) way n).0 is;
+        accepted = (accepts_exactly r.meaning.game r.spelling (readable l level.0) way n).0 is;
       }
   right text (Err e) read is = absurd (clash n e is)
 
@@ -28,7 +28,7 @@ module _ (way : List ℕ) (n : ℕ) where
   judged_right text right =
       let r = rules right.level in
       ap judgement_after (ap read_level right.spelled ∙ (reads_exactly text).all right.level right.valid)
-      ∙ (accepts_exactly r.game r.spelling (readable right.level right.valid) way n).1 right.accepted
+      ∙ (accepts_exactly r.meaning.game r.spelling (readable right.level right.valid) way n).1 right.accepted
 
 pub judges_exactly : (text way : List ℕ) → JudgesExactly text way
 judges_exactly text way n = (right way n text (read_level text) refl, judged_right way n text)
@@ -36,4 +36,4 @@ judges_exactly text way n = (right way n text (read_level text) refl, judged_rig
 pub accepts_solutions_of : (text way : List ℕ) → AcceptsSolutions text way
 accepts_solutions_of text way n l read is =
     let valid = ((reads_exactly text).only l read).0 in
-    accepts_solutions (rules l).game (rules l).spelling (readable l valid) way n (sym (ap (judgement_after way n) read) ∙ is)
+    accepts_solutions (rules l).meaning.game (rules l).spelling (readable l valid) way n (sym (ap (judgement_after way n) read) ∙ is)

@@ -1,1 +1,3 @@
 pub mod Exactly
+pub mod Lengths
+pub mod Reporting

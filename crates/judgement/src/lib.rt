@@ -1,13 +1,17 @@
 //! The judgement of a written way for a level of any kind, from text to text.
 #![tactic(auto)]
 
-ghost use Rattle.std.specs.Prelude.{◌≡◌, IfOk, string_bytes};
+ghost use Rattle.std.specs.Prelude.{◌≡◌};
 ghost use Rattle.judgement.specs.Judgement.{judgement_of_texts, JudgesWay, JudgesExactly, AcceptsSolutions, report_text};
 
 use levels::{LevelVisitor, read_level};
 use refusals::Refusal;
-use std::alloc::{AllocError, Global};
+use text::pen::{Compose, Pen, write_text};
 use ways::{Notation, judge};
+
+mod streaming;
+
+pub use crate::streaming::judge_streams;
 
 /// Judges a way, as a text, for the level that it visits.
 #[derive(Drop)]
@@ -35,12 +39,35 @@ pub fn judge_texts(level_text: &[u8], way_text: &[u8]) -> Result<u32, Refusal>
     read_level(level_text)?.accept(WayJudge { way_text })
 }
 
-/// The line that reports a judgement: `(accepted N)` or `(fault NUMBER LINE)`.
-pub fn report(heap: Global, judgement: Result<u32, Refusal>) -> Result<String, AllocError>
-    ensures { IfOk result (λ s. string_bytes s ≡ report_text judgement) }
-{
-    match judgement {
-        Ok(moves) => format!(in heap; "(accepted {moves})\n"),
-        Err(refusal) => format!(in heap; "{refusal}\n"),
+/// Room for every report: that of a refusal with a number of two digits and a line of twenty is the longest.
+pub const REPORT_ROOM: usize = 32;
+
+/// A judgement, as the line that reports it.
+#[derive(Clone, Copy)]
+struct ReportLine(Result<u32, Refusal>);
+
+impl Compose for ReportLine {
+    ghost text = { λ line. report_text line.0 };
+
+    fn compose(&self, pen: &mut Pen) {
+        match self.0 {
+            Ok(moves) => {
+                pen.put(b"(accepted ");
+                pen.put_decimal(moves);
+                pen.put(b")\n");
+            }
+            Err(refusal) => {
+                refusal.compose(pen);
+                pen.put(b"\n");
+            }
+        }
     }
+}
+
+/// The line that reports a judgement, `(accepted N)` or `(fault NUMBER LINE)`, at the front of a buffer.
+pub fn report(judgement: Result<u32, Refusal>, buffer: &mut [u8; REPORT_ROOM]) -> &[u8]
+    ensures { result.now ≡ report_text judgement }
+{
+    let length = write_text(&ReportLine(judgement), buffer).unwrap();
+    &buffer[..length]
 }

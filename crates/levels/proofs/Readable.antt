@@ -4,6 +4,6 @@ use Rattle.atoms.specs.laws.Readable as atom
 use Rattle.ways.specs.Notations.{Lawful}
 use Rattle.levels.specs.Levels.{Level, tiles, atoms, rules, Valid}
 
-pub readable : (l : Level) → Valid l → Lawful (rules l).game (rules l).spelling
+pub readable : (l : Level) → Valid l → Lawful (rules l).meaning.game (rules l).spelling
 readable (tiles l) valid = tile.readable l
 readable (atoms l) valid = atom.readable_where_valid l valid

@@ -1,35 +1,37 @@
--- Levels of every kind: which kind a text is of, how a level is written, its game and how its moves are written. Assumes nothing.
+-- Levels of every kind: which kind a text is of, how a level is written, the puzzle that it is and how its moves are
+-- written. Assumes nothing.
 use Rattle.std.specs.Prelude.{ℕ, cond, List, Some, None, Err, codes, Option, Result}
 use Rattle.std.specs.Str.{bytes_eq}
-use Rattle.refusals.specs.declared.Fault.TheVariants.{NotText, LineForm}
 use Rattle.refusals.specs.declared.Refusal.{Refusal}
-use Rattle.refusals.specs.Refusals.{refusal}
-use Rattle.puzzle.specs.Game.{Game}
+use Rattle.refusals.specs.Refusals.{refused}
+use Rattle.puzzle.specs.Meaning.{Meaning}
 use Rattle.text.specs.Lines.{is_text}
 use Rattle.text.specs.Reading.{map_ok}
 use Rattle.text.specs.Forms.{first_keyword}
 use Rattle.text.specs.LevelReading as reading
 use Rattle.ways.specs.Notations.{Spelling}
 use Rattle.tiles.specs.Level as tile
+use Rattle.tiles.specs.Meaning as tile_meaning
 use Rattle.tiles.specs.WrittenMoves as tile_moves
 use Rattle.tiles.specs.LevelText.Writing as tile_text
 use Rattle.tiles.specs.LevelText.Reading as tile_reading
 use Rattle.atoms.specs.Level as atom
+use Rattle.atoms.specs.Meaning as atom_meaning
 use Rattle.atoms.specs.WrittenMoves as atom_moves
 use Rattle.atoms.specs.LevelText.Writing as atom_text
 use Rattle.atoms.specs.LevelText.Reading as atom_reading
 use Rattle.levels.specs.declared.level.Level as code
 use Rattle.levels.specs.declared.level.Level.TheVariants as coded
 
--- a game and how its moves are written, whatever its positions are
+-- what a puzzle means and how its moves are written, whatever its positions are
 pub record Rules : Type 1 where
   pub Position : Type 0
   pub Written : Type 0
-  pub game : Game Position
+  pub meaning : Meaning Position
   pub spelling : Spelling Position Written
 
-abbrev pub rules_of : {P W : Type 0} → Game P → Spelling P W → Rules
-rules_of {P} {W} g k = record { Position = P; Written = W; game = g; spelling = k }
+abbrev pub rules_of : {P W : Type 0} → Meaning P → Spelling P W → Rules
+rules_of {P} {W} m k = record { Position = P; Written = W; meaning = m; spelling = k }
 
 pub data Level : Type 0 where
   tiles : tile.Tiles → Level
@@ -45,8 +47,16 @@ pub record Kind : Type 1 where
 
 -- the one place where kinds are told apart
 abbrev pub kind : Level → Kind
-kind (tiles l) = record { text = tile_text.level_text l; Valid = tile.Valid l; rules = rules_of (tile.game l) (tile_moves.spelling l) }
-kind (atoms l) = record { text = atom_text.level_text l; Valid = atom.Valid l; rules = rules_of (atom.game l) (atom_moves.spelling l) }
+kind (tiles l) = record {
+  text = tile_text.level_text l;
+  Valid = tile.Valid l;
+  rules = rules_of (tile_meaning.meaning l) (tile_moves.spelling l);
+}
+kind (atoms l) = record {
+  text = atom_text.level_text l;
+  Valid = atom.Valid l;
+  rules = rules_of (atom_meaning.meaning l) (atom_moves.spelling l);
+}
 
 abbrev pub level_text : Level → List ℕ
 level_text l = (kind l).text
@@ -59,7 +69,7 @@ rules l = (kind l).rules
 
 -- why a text is no level that begins with the keyword of no kind
 abbrev pub kindless : List ℕ → Refusal
-kindless text = cond (is_text text) (refusal LineForm 1) (refusal NotText 0)
+kindless text = cond (is_text text) (refused 12 1) (refused 11 0)
 
 -- by the keyword of the first line
 abbrev pub level_by_keyword : Option (List ℕ) → List ℕ → Result Level Refusal

@@ -2,7 +2,8 @@ ghost use Rattle.std.specs.Prelude.{◌≡◌};
 ghost use Rattle.text.specs.Reading.{map_ok};
 ghost use Rattle.levels.specs.Levels.{level_value, read_level, rules, ReadsExactly};
 
-use crate::visitor::LevelVisitor;
+use crate::tables::Tables;
+use crate::visitor::{LevelVisitor, TableVisitor};
 use atoms::AtomLevel;
 use refusals::{Fault, Refusal};
 use text::{forms, is_text};
@@ -15,14 +16,29 @@ pub enum Level {
     Atoms(AtomLevel),
 }
 
+// Nothing else tells kinds apart.
 impl Level {
-    /// Lets the visitor do its work with the level. Nothing else tells kinds apart.
+    /// Lets the visitor do its work with the level.
     pub fn accept<V: LevelVisitor>(&self, visitor: V) -> V::Output
         ensures { V.Gives visitor (rules (level_value self.now)) result }
     {
         match self {
             Level::Tiles(level) => visitor.visit(level),
             Level::Atoms(level) => visitor.visit(level),
+        }
+    }
+
+    /// Lets the visitor do its work with the level and the table for its kind.
+    pub fn accept_with_table<const PLACES: usize, V: TableVisitor<PLACES>>(
+        &self,
+        tables: &mut Tables<PLACES>,
+        visitor: V,
+    ) -> V::Output
+        ensures { V.Gives visitor (rules (level_value self.now)) result }
+    {
+        match self {
+            Level::Tiles(level) => visitor.visit(level, &mut tables.tiles),
+            Level::Atoms(level) => visitor.visit(level, &mut tables.atoms),
         }
     }
 }

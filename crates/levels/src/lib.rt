@@ -2,7 +2,9 @@
 #![tactic(auto)]
 
 mod level;
+mod tables;
 mod visitor;
 
 pub use level::{Level, read_level};
-pub use visitor::LevelVisitor;
+pub use tables::{Table, Tables};
+pub use visitor::{LevelVisitor, TableVisitor};

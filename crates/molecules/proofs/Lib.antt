@@ -7,3 +7,4 @@ pub mod Walls
 pub mod Overlays
 pub mod Fitting
 pub mod Passing
+pub mod Everywhere

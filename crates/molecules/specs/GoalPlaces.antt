@@ -59,3 +59,37 @@ list_of g = take g.count g.cells
 -- the list has the goal places among the cells of the board, and nothing else
 abbrev pub ListsExactly : Shape → Shape → Type 0
 ListsExactly b m = (p : ℕ) → Contains (goal_places b m) p ↔ ((p < length b.cells) × IsGoalPlace b m p)
+
+-- The molecule m lies anywhere, also above the board b or beside it: its first cell lies `down` rows below the board's
+-- first one and then `up` rows back, and `right` columns to the right of it and then `left` columns back.
+module _ (b m : Shape) (down up right left : ℕ) where
+  -- a cell of the molecule falls on a cell of the board that is no wall
+  pub record FallsOnFree (part : ℕ) : Type 0 where
+    pub row_under : ℕ
+    pub column_under : ℕ
+    pub downward : row_under + up ≡ row m.width part + down
+    pub across : column_under + left ≡ column m.width part + right
+    pub row_inside : row_under < b.height
+    pub column_inside : column_under < b.width
+    pub free : is_wall (cell_at b (at b.width row_under column_under)) ≡ false
+
+  -- every atom of the molecule does: it may lie so
+  abbrev pub MayLie : Type 0
+  MayLie = (part : ℕ) → is_atom (cell_at m part) ≡ true → FallsOnFree part
+
+  -- the first cell of the molecule lies on one of these cells of the board
+  pub record BeginsOnOneOf (places : List ℕ) : Type 0 where
+    pub place : ℕ
+    pub listed : Contains places place
+    pub downward : row b.width place + up ≡ down
+    pub across : column b.width place + left ≡ right
+
+-- these are the cells of the board on which its first cell may lie
+abbrev pub ListsOnBoard : Shape → Shape → List ℕ → Type 0
+ListsOnBoard b m places =
+    (p : ℕ) → Contains places p ↔ ((p < length b.cells) × MayLie b m (row b.width p) 0 (column b.width p) 0)
+
+-- wherever its first cell lies, it may lie so exactly if that is on one of these cells of the board
+abbrev pub ListsEverywhere : Shape → Shape → List ℕ → Type 0
+ListsEverywhere b m places =
+    (down up right left : ℕ) → MayLie b m down up right left ↔ BeginsOnOneOf b m down up right left places

@@ -3,7 +3,7 @@ use std::marker::Model;
 
 mod calls;
 
-/// The open list of a search over lent numbers, four for each place.
+/// The open list of a search over lent numbers, four for each place. What stands in them is free.
 #[derive(Drop)]
 pub struct OpenList<'a> {
     heap: Heap<'a>,

@@ -1,5 +1,8 @@
 ghost use Rattle.std.specs.Prelude.{◌≡◌};
 ghost use Rattle.pictures.specs.Cells.{label_in, symbol_of, Draws, DrawsOne, SymbolDrawsBack};
+ghost use Rattle.pictures.specs.laws.Equal;
+
+use equality::Exact;
 
 /// What is drawn on a cell.
 #[derive(Clone, Copy, Debug, PartialEq, Eq)]
@@ -9,6 +12,10 @@ pub enum Cell {
     Free,
     /// An atom with its label, a letter A to Z.
     Atom(u8),
+}
+
+impl Exact for Cell {
+    ghost exact = { Equal.same_cells };
 }
 
 impl Cell {
@@ -24,7 +31,7 @@ impl Cell {
 }
 
 /// A character that draws no cell.
-#[derive(Clone, Copy, Debug, PartialEq, Eq)]
+#[derive(Clone, Copy, Debug)]
 pub struct UnknownSymbol(pub char);
 
 /// The cell that a character draws.

@@ -31,7 +31,8 @@ pub trait Puzzle {
         ensures { IfReached (meaning self.now) at.now (Prepares self.now at.now result) };
 
     /// Plays a move of a position that was prepared: says whether it is open, and if so fills `into` with where it leads.
-    /// A position may be large, so it is written where it is to lie.
+    /// A position may be large, so it is written where it is to lie. With what was prepared of another position it is
+    /// safe, and what it answers and writes is free.
     fn play(
         &self,
         from: &Self::Position,

@@ -2,14 +2,14 @@
 #![tactic(auto)]
 
 ghost use Rattle.std.specs.Prelude.{◌≡◌, Some};
-ghost use Rattle.refusals.specs.Refusals.{number_of, refusal, refusal_text};
+ghost use Rattle.refusals.specs.Refusals.{Numbered, refusal, refusal_text};
 
 use std::error::Error;
 use std::fmt;
 
 /// Why a text, a way or a call is refused, with the number under which the refusal is known. Its tens digit names the
 /// layer.
-#[derive(Clone, Copy, PartialEq, Eq, Debug)]
+#[derive(Clone, Copy, Debug)]
 pub enum Fault {
     /// The bytes are no text: too many, none, a strange one, or the last line not ended.
     NotText = 11,
@@ -57,7 +57,7 @@ pub enum Fault {
 
 /// The number under which the refusal is known.
 impl From<Fault> for u32 {
-    ghost from_gives = { λ fault number. number ≡ number_of fault };
+    ghost from_gives = { λ fault number. Numbered fault number };
 
     fn from(fault: Fault) -> u32 {
         fault as u32
@@ -74,7 +74,7 @@ impl Fault {
 }
 
 /// A refusal: why, and the line it names, counted from 1; 0 where it names none.
-#[derive(Clone, Copy, PartialEq, Eq, Debug)]
+#[derive(Clone, Copy, Debug)]
 pub struct Refusal {
     pub fault: Fault,
     pub line: usize,

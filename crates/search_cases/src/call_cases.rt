@@ -1,5 +1,5 @@
 //! Calls in any order, and memory that does not go together.
-use crate::graph::{Graph, Spot};
+use crate::graph::{Graph, NO_SPOT, Spot};
 use crate::said::{Answer, Call, NUMBERS, ROOM, Said, answers_so};
 use search::Search;
 use search_theory::Verdict;
@@ -117,7 +117,7 @@ static FULL: [(Call, Said); 8] = [
 // A search of the graph over so many places answers each call as its row says.
 fn answers_over(rt: &impl Abort, start: Spot, places: usize, rows: &[(Call, Said)], moves: &[u32]) {
     let places = places.min(ROOM);
-    let mut table = [start; ROOM];
+    let mut table = [NO_SPOT; ROOM];
     let mut numbers = [0; NUMBERS * ROOM];
     let mut search = Search::new(&mut table[..places], &mut numbers[..NUMBERS * places]);
     answers_so(rt, &Graph { start }, &mut search, rows, moves);
@@ -156,7 +156,7 @@ static SIZES: [(usize, usize, Said); 14] = [
 
 #[test]
 fn sizes(rt: HostRuntime) {
-    let mut table = [Spot::Pit; TOO_MANY];
+    let mut table = [NO_SPOT; TOO_MANY];
     let mut numbers = [0; NUMBERS * ROOM];
     for (places, listed, due) in SIZES {
         let table = &mut table[..places.min(TOO_MANY)];

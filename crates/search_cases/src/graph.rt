@@ -61,6 +61,10 @@ impl Spot {
     }
 }
 
+/// What tables hold before: the dead spot, which is never stored, so that a start that is not stored is noticed.
+#[cfg(test)]
+pub(crate) const NO_SPOT: Spot = Spot::Pit;
+
 /// The graph with a spot to start at.
 #[derive(Clone, Copy, Debug)]
 pub(crate) struct Graph {

@@ -1,5 +1,5 @@
 //! Searches of the graph.
-use crate::graph::{Graph, Spot};
+use crate::graph::{Graph, NO_SPOT, Spot};
 use crate::said::{End, ROOM, ends_so};
 use search_theory::Verdict;
 
@@ -24,7 +24,7 @@ static ENDS: [(Spot, usize, End, &[u32]); 12] = [
 #[test]
 fn ends(rt: HostRuntime) {
     for (start, places, due, moves) in ENDS {
-        let mut table = [start; ROOM];
+        let mut table = [NO_SPOT; ROOM];
         let puzzle = Graph { start };
         ends_so(
             &rt,

@@ -1,9 +1,16 @@
 //! Searches of levels of both kinds.
 use crate::said::{End, ROOM, ends_safely, ends_so};
+use atoms::{AtomLevel, Position};
 use levels::{Level, read_level};
-use puzzle::Puzzle;
 use refusals::Refusal;
 use search_theory::Verdict;
+
+// What the tables hold before: no position of any level, so that a start that is not stored is noticed.
+const NO_TILES: u64 = 0;
+
+const NO_ATOMS: Position = Position {
+    cells: [u8::MAX; AtomLevel::MOST_ATOMS],
+};
 
 // A level's text, the places of the table, how the search ends, and the moves.
 static ENDS: [(&str, usize, End, &[u32]); 22] = [
@@ -148,11 +155,11 @@ fn ends(rt: HostRuntime) -> Result<(), Refusal> {
         let places = places.min(ROOM);
         match read_level(text.as_bytes())? {
             Level::Tiles(level) => {
-                let mut table = [level.start(); ROOM];
+                let mut table = [NO_TILES; ROOM];
                 ends_so(&rt, &level, &mut table[..places], due, moves, text);
             }
             Level::Atoms(level) => {
-                let mut table = [level.start(); ROOM];
+                let mut table = [NO_ATOMS; ROOM];
                 ends_so(&rt, &level, &mut table[..places], due, moves, text);
             }
         }
@@ -201,11 +208,11 @@ fn ends_safely_on_other_levels(rt: HostRuntime) -> Result<(), Refusal> {
     for (text, other) in OTHERS {
         match (read_level(text.as_bytes())?, read_level(other.as_bytes())?) {
             (Level::Tiles(opened), Level::Tiles(handed)) => {
-                let mut table = [opened.start(); ROOM];
+                let mut table = [NO_TILES; ROOM];
                 ends_safely(&rt, &opened, &handed, &mut table, text);
             }
             (Level::Atoms(opened), Level::Atoms(handed)) => {
-                let mut table = [opened.start(); ROOM];
+                let mut table = [NO_ATOMS; ROOM];
                 ends_safely(&rt, &opened, &handed, &mut table, text);
             }
             _ => panic!(rt; "levels of two kinds"),

@@ -93,14 +93,14 @@ pub(crate) fn answers_so<Z: Puzzle>(
 /// How a search ends: its verdict, its steps and the places in use.
 pub(crate) type End = (Verdict, u64, usize);
 
-// How a search ends whose advances have this budget: its report, the steps that its advances answered together, and how
-// many moves it wrote to the list.
+// How a search ends whose advances have this budget, the steps that its advances answered together, and how many moves
+// it wrote to the list.
 fn searched<Z: Puzzle>(
     puzzle: &Z,
     table: &mut [Z::Position],
     budget: u32,
     list: &mut [u32; ROOM],
-) -> Result<(Report, u64, Option<usize>), Fault> {
+) -> Result<(End, u64, Option<usize>), Fault> {
     let places = table.len();
     let mut numbers = [0; NUMBERS * ROOM];
     let mut search = Search::new(table, &mut numbers[..NUMBERS * places.min(ROOM)]);
@@ -112,7 +112,8 @@ fn searched<Z: Puzzle>(
         answered = answered.saturating_add(u64::from(advance.steps));
     }
     let report = search.verdict()?;
-    Ok((report, answered, search.solution(puzzle, list).ok()))
+    let end = (report.verdict, report.steps, report.places);
+    Ok((end, answered, search.solution(puzzle, list).ok()))
 }
 
 /// The search of a puzzle ends so, whatever budgets its advances have. What it writes is these moves.
@@ -124,17 +125,12 @@ pub(crate) fn ends_so<Z: Puzzle>(
     moves: &[u32],
     name: &str,
 ) {
-    let (verdict, steps, places) = due;
-    let report = Report {
-        verdict,
-        steps,
-        places,
-    };
+    let (verdict, steps, _) = due;
     let written = matches!(verdict, Verdict::Solved(_)).then_some(moves.len());
     for budget in [1, 3, u32::MAX] {
         let mut list = [UNTOUCHED; ROOM];
-        let said = searched(puzzle, table, budget, &mut list);
-        assert_eq!(rt; said, Ok((report, steps, written)), "{name} by {budget}");
+        let said = searched(puzzle, table, budget, &mut list).map_err(u32::from);
+        assert_eq!(rt; said, Ok((due, steps, written)), "{name} by {budget}");
         assert!(rt; holds(&list, moves), "{name} by {budget}");
     }
 }

@@ -7,7 +7,7 @@ use Rattle.search_theory.proofs.Stepping.{Honest, step_honest}
 
 module _ {P : Type 0} (m : Meaning P) (capacity : ℕ) where
   -- only a running search takes a step
-  step_running : (old new : State P) → Step m capacity old new → old.verdict ≡ Running
+  pub step_running : (old new : State P) → Step m capacity old new → old.verdict ≡ Running
   step_running old new (finishes place node runs taken fin same) = runs
   step_running old new (expands place node nodes verdict runs taken unfinished moves on same) = runs
   step_running old new (overflows place number node nodes runs taken unfinished moves below over same) = runs

@@ -11,3 +11,4 @@ pub mod Unique
 pub mod Advancing
 pub mod Calling
 pub mod Promise
+pub mod Ending

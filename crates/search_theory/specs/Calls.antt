@@ -1,7 +1,7 @@
 -- The calls of a search: what each of them answers, and what it leaves. Assumes nothing.
 use Rattle.std.specs.Prelude.{◌≡◌, ℕ, ◌*◌, ◌≤◌, Bool, true, false, cond, ◌&&◌, ◌==◌, nat_le, List, [], ◌∷◌, ◌++◌, length, drop, Some, None, Option, Ok, Err, Result}
 use Rattle.refusals.specs.declared.Fault.{Fault}
-use Rattle.refusals.specs.declared.Fault.TheVariants.{TableSize, ListSize, AlreadyOpen, NotOpen, NoBudget, NotSolved, ShortList}
+use Rattle.refusals.specs.Refusals.{fault}
 use Rattle.puzzle.specs.Game.{Finishes}
 use Rattle.puzzle.specs.Meaning.{Meaning}
 use Rattle.search_theory.specs.declared.Verdict.{Verdict}
@@ -31,24 +31,24 @@ is_unopened s = elim s.state [ Some t ↦ false | None ↦ true ]
 abbrev pub open_refusal : {P : Type 0} → Search P → Option Fault
 open_refusal s =
     cond (nat_le 1 s.places && nat_le s.places 1048576)
-    (cond (s.numbers == 8 * s.places) (cond (is_unopened s) None (Some AlreadyOpen)) (Some ListSize))
-    (Some TableSize)
+    (cond (s.numbers == 8 * s.places) (cond (is_unopened s) None (Some (fault 33))) (Some (fault 32)))
+    (Some (fault 31))
 
 abbrev pub advance_refusal : {P : Type 0} → Search P → ℕ → Option Fault
-advance_refusal s budget = cond (is_unopened s) (Some NotOpen) (cond (nat_le 1 budget) None (Some NoBudget))
+advance_refusal s budget = cond (is_unopened s) (Some (fault 34)) (cond (nat_le 1 budget) None (Some (fault 35)))
 
 abbrev pub verdict_refusal : {P : Type 0} → Search P → Option Fault
-verdict_refusal s = cond (is_unopened s) (Some NotOpen) None
+verdict_refusal s = cond (is_unopened s) (Some (fault 34)) None
 
 -- under a verdict; the moves go into a list of some places
 abbrev pub recite_refusal_under : Verdict → ℕ → Option Fault
-recite_refusal_under Running room = Some NotSolved
-recite_refusal_under (Solved n) room = cond (nat_le n room) None (Some ShortList)
-recite_refusal_under Unsolvable room = Some NotSolved
-recite_refusal_under TableFull room = Some NotSolved
+recite_refusal_under Running room = Some (fault 36)
+recite_refusal_under (Solved n) room = cond (nat_le n room) None (Some (fault 37))
+recite_refusal_under Unsolvable room = Some (fault 36)
+recite_refusal_under TableFull room = Some (fault 36)
 
 abbrev pub recite_refusal : {P : Type 0} → Search P → ℕ → Option Fault
-recite_refusal s room = elim s.state [ Some t ↦ recite_refusal_under t.verdict room | None ↦ Some NotOpen ]
+recite_refusal s room = elim s.state [ Some t ↦ recite_refusal_under t.verdict room | None ↦ Some (fault 34) ]
 
 -- what a refused call answers
 abbrev pub refusal_in : {A : Type 0} → Result A Fault → Option Fault

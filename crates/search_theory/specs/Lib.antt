@@ -3,3 +3,4 @@ pub mod Steps
 pub mod Calls
 pub mod Promise
 pub mod inside
+pub mod laws

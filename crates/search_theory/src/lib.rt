@@ -2,6 +2,10 @@
 //! every list of calls.
 #![tactic(auto)]
 
+ghost use Rattle.search_theory.specs.laws.Equal;
+
+use equality::Exact;
+
 /// What a search says.
 #[derive(Clone, Copy, PartialEq, Eq, Debug)]
 pub enum Verdict {
@@ -15,15 +19,19 @@ pub enum Verdict {
     TableFull,
 }
 
+impl Exact for Verdict {
+    ghost exact = { Equal.same_verdicts };
+}
+
 /// What an advance answers: the verdict, and how many steps it took.
-#[derive(Clone, Copy, PartialEq, Eq, Debug)]
+#[derive(Clone, Copy, Debug)]
 pub struct Advance {
     pub verdict: Verdict,
     pub steps: u32,
 }
 
 /// Where a search stands: its verdict, all its steps, and how many places of the table are in use.
-#[derive(Clone, Copy, PartialEq, Eq, Debug)]
+#[derive(Clone, Copy, Debug)]
 pub struct Report {
     pub verdict: Verdict,
     pub steps: u64,

@@ -4,17 +4,21 @@
 //! status 1, and standard error says why.
 #![tactic(auto)]
 
-use answers::answer;
+use answers::{Workspace, answer_stream};
 use std::process::ExitCode;
-use streams::{Failure, arguments, end, end_with_usage, read_input, write_answer};
+use streams::{Failure, arguments, end, end_with_usage, standard_input, standard_output};
 
 /// The program's name, under which it says what failed.
 const NAME: &str = "slide";
 
 fn answer_input(rt: &HostRuntime) -> Result<(), Failure<'static>> {
-    let level = read_input(rt)?;
-    let answer = answer(rt.alloc(), &level)?;
-    write_answer(rt, &answer)
+    let mut workspace = Workspace::new(rt.alloc())?;
+    answer_stream(
+        rt.alloc(),
+        &mut workspace,
+        standard_input(rt),
+        &mut standard_output(rt),
+    )
 }
 
 fn main(rt: HostRuntime) -> ExitCode {

@@ -8,7 +8,7 @@ const WORD_BITS: usize = 64;
 const WORDS: usize = 4;
 
 /// A set of cells with numbers from 0 to 255, a bit for each.
-#[derive(Clone, Copy, Debug, PartialEq, Eq)]
+#[derive(Clone, Copy, Debug)]
 pub struct CellSet {
     words: [u64; WORDS],
 }

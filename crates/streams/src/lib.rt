@@ -1,11 +1,22 @@
-//! What the programs share: reading files and standard input, writing an answer, and how a program ends that fails.
+//! What the programs share: named streams that are read whole and that an answer is written to, and how a program ends.
+//!
+//! What is read and written is said for every reader and every writer. The real streams are made here from the runtime,
+//! and no clause can say what those give or take.
 #![tactic(auto)]
 
-use std::alloc::AllocError;
+ghost use Rattle.std.specs.Prelude.{◌≡◌, ℕ, List, Option, None, IfOk, IfErr, OnOk, IfSome, MatchResult};
+ghost use Rattle.std.specs.Process.{exit_status};
+ghost use Rattle.std.specs.Io.KnownBytes.{Appends};
+ghost use Rattle.streams.specs.Failing.{memory_name, standard_input_name, name_of};
+
+use either::{Either, Left, Right};
+use std::alloc::{AllocError, Global};
 use std::env::Args;
+use std::fs::File;
 use std::io::{Read, Write};
 use std::process::ExitCode;
-use std::{env, fmt, fs, io};
+use std::rt::{Stdin, Stdout};
+use std::{env, fmt, io};
 
 /// The path that stands for standard input.
 const STANDARD_INPUT: &str = "-";
@@ -26,13 +37,144 @@ impl fmt::Display for Failure<'_> {
 }
 
 /// Memory is wanted for what the program answers.
-impl From<AllocError> for Failure<'static> {
-    fn from(error: AllocError) -> Failure<'static> {
+impl From<AllocError> for Failure<'_> {
+    ghost from_gives = { λ _ failure. failure.name.now ≡ memory_name };
+
+    fn from(error: AllocError) -> Self {
         Failure {
             name: "the answer",
             error: error.into(),
         }
     }
+}
+
+/// A stream, and the name that a failure of it gives.
+#[derive(Drop)]
+pub struct Named<'a, S> {
+    pub name: &'a str,
+    pub stream: S,
+}
+
+impl<'a, R: Read + Drop> Named<'a, R> {
+    /// All bytes that the stream gives, up to its end, after which it is let go.
+    ///
+    /// Fails where the stream does, in mid-stream too, and for want of memory. What was read till then is lost.
+    pub fn read_all(self, heap: Global) -> Result<Vec<u8>, Failure<'a>>
+        ensures all { IfOk result (λ bytes. IfSome (R.remaining self.entry.stream) (λ given. bytes.items ≡ given)) }
+        ensures named { IfErr result (λ failure. failure.name.now ≡ self.entry.name.now) }
+    {
+        let Named { name, mut stream } = self;
+        let mut bytes = Vec::new(heap);
+        match stream.read_to_end(&mut bytes) {
+            Ok(_) => Ok(bytes),
+            Err(error) => Err(Failure { name, error }),
+        }
+    }
+}
+
+impl<'a, W: Write> Named<'a, W> {
+    /// Writes a whole answer and flushes it.
+    ///
+    /// Fails where the stream does. It may then have taken any part of the answer.
+    pub fn write_answer(&mut self, answer: &[u8]) -> Result<(), Failure<'a>>
+        ensures written { OnOk result (Appends (W.contents self.old.stream) (W.contents self.new.stream) answer.now) }
+        ensures named { IfErr result (λ failure. failure.name.now ≡ self.old.name.now) }
+    {
+        match write_and_flush(&mut self.stream, answer) {
+            Ok(()) => Ok(()),
+            Err(error) => Err(Failure {
+                name: self.name,
+                error,
+            }),
+        }
+    }
+}
+
+fn write_and_flush<W: Write>(out: &mut W, bytes: &[u8]) -> io::Result<()>
+    ensures { OnOk result (Appends (W.contents out.old) (W.contents out.new) bytes.now) }
+{
+    out.write_all(bytes)?;
+    out.flush()
+}
+
+/// An input that is opened when its turn comes.
+///
+/// Where standard input is closed, a file that is opened before its turn would take its place.
+pub trait Source<'a>: Drop {
+    type Stream: Read + Drop;
+
+    /// The name that its failure gives.
+    ghost name: { Self → List ℕ };
+
+    /// The bytes that it gives, where they are known.
+    ghost given: { Self → Option (List ℕ) };
+
+    /// Opens it.
+    fn open(self) -> Result<Named<'a, Self::Stream>, Failure<'a>>
+        ensures opened { IfOk result (λ opened. (opened.name.now ≡ name self)
+            × (Self.Stream.remaining opened.stream ≡ given self)) }
+        ensures named { IfErr result (λ failure. failure.name.now ≡ name self) };
+}
+
+/// A stream that is open already.
+impl<'a, R: Read + Drop> Source<'a> for Named<'a, R> {
+    type Stream = R;
+
+    ghost name = { λ source. source.name.now };
+
+    ghost given = { λ source. R.remaining source.stream };
+
+    fn open(self) -> Result<Named<'a, R>, Failure<'a>> {
+        Ok(self)
+    }
+}
+
+/// The file of a path, or standard input for `-`.
+#[derive(Drop)]
+pub struct PathSource<'a> {
+    rt: HostRuntime,
+    path: &'a str,
+}
+
+impl<'a> PathSource<'a> {
+    /// The source that a path names.
+    pub fn new(rt: &HostRuntime, path: &'a str) -> PathSource<'a> {
+        PathSource { rt: *rt, path }
+    }
+}
+
+impl<'a> Source<'a> for PathSource<'a> {
+    type Stream = Either<File, Stdin>;
+
+    ghost name = { λ source. name_of source.path.now };
+
+    ghost given = { λ _. None };
+
+    fn open(self) -> Result<Named<'a, Either<File, Stdin>>, Failure<'a>> {
+        let PathSource { rt, path } = self;
+        if path == STANDARD_INPUT {
+            let Named { name, stream } = standard_input(&rt);
+            return Ok(Named {
+                name,
+                stream: Right(stream),
+            });
+        }
+        match File::open(&rt, path) {
+            Ok(file) => Ok(Named {
+                name: path,
+                stream: Left(file),
+            }),
+            Err(error) => Err(Failure { name: path, error }),
+        }
+    }
+}
+
+/// All bytes of a source, from its opening to its end, after which it is let go.
+pub fn read_source<'a, S: Source<'a>>(heap: Global, source: S) -> Result<Vec<u8>, Failure<'a>>
+    ensures all { IfOk result (λ bytes. IfSome (S.given source) (λ given. bytes.items ≡ given)) }
+    ensures named { IfErr result (λ failure. failure.name.now ≡ S.name source) }
+{
+    source.open()?.read_all(heap)
 }
 
 /// The arguments of the program, its own name first.
@@ -43,45 +185,36 @@ pub fn arguments(rt: &HostRuntime) -> Result<Args, Failure<'static>> {
     })
 }
 
-/// All bytes of standard input.
-pub fn read_input(rt: &HostRuntime) -> Result<Vec<u8>, Failure<'static>> {
-    let mut bytes = Vec::new(rt.alloc());
-    match rt.stdin().read_to_end(&mut bytes) {
-        Ok(_) => Ok(bytes),
-        Err(error) => Err(Failure {
-            name: "standard input",
-            error,
-        }),
+/// Standard input.
+pub fn standard_input<'a>(rt: &HostRuntime) -> Named<'a, Stdin>
+    ensures { result.name.now ≡ standard_input_name }
+{
+    Named {
+        name: "standard input",
+        stream: rt.stdin(),
     }
 }
 
-/// All bytes of the file of that path, or of standard input for `-`.
-pub fn read_path<'a>(rt: &HostRuntime, path: &'a str) -> Result<Vec<u8>, Failure<'a>> {
-    if path == STANDARD_INPUT {
-        return read_input(rt);
+/// Standard output.
+pub fn standard_output<'a>(rt: &HostRuntime) -> Named<'a, Stdout> {
+    Named {
+        name: "standard output",
+        stream: rt.stdout(),
     }
-    fs::read(rt, path).map_err(|error| Failure { name: path, error })
 }
 
-/// Writes an answer to standard output.
-pub fn write_answer(rt: &HostRuntime, answer: &[u8]) -> Result<(), Failure<'static>> {
-    let mut out = rt.stdout();
-    out.write_all(answer)
-        .and_then(|_| out.flush())
-        .map_err(|error| Failure {
-            name: "standard output",
-            error,
-        })
-}
-
-/// How a program ends that was called wrongly: standard error says how it is called.
-pub fn end_with_usage(rt: &HostRuntime, usage: &str) -> ExitCode {
+/// How a program ends that was called wrongly: with status 1, and standard error says how it is called.
+pub fn end_with_usage(rt: &HostRuntime, usage: &str) -> ExitCode
+    ensures { exit_status result ≡ 1 }
+{
     let _ = eprintln!(rt; "usage: {usage}");
     ExitCode::FAILURE
 }
 
-/// How a program of that name ends: well, or standard error says what failed.
-pub fn end(rt: &HostRuntime, program: &str, outcome: Result<(), Failure>) -> ExitCode {
+/// How a program of that name ends: with status 0, or with status 1 where standard error says what failed.
+pub fn end(rt: &HostRuntime, program: &str, outcome: Result<(), Failure>) -> ExitCode
+    ensures { MatchResult outcome.entry (λ _. exit_status result ≡ 0) (λ _. exit_status result ≡ 1) }
+{
     match outcome {
         Ok(()) => ExitCode::SUCCESS,
         Err(failure) => {

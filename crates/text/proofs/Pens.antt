@@ -1,11 +1,12 @@
 -- Laws of what a pen writes: nothing, one text after the other, and a whole text from the front. Assumes nothing.
-use Rattle.std.proofs.Common.{◌≡◌, ℕ, ◌+◌, ◌-◌, ◌<◌, ◌≤◌, Bool, true, false, ◌||◌, ltb, cond, ok_or, List, [], ◌++◌, length, take, drop, Some, None, Ok, Err, Option, Result, sym, refl, ap, ◌∙◌, subst, append_assoc, arith}
+use Rattle.std.proofs.Common.{◌≡◌, ℕ, ◌+◌, ◌-◌, ◌<◌, ◌≤◌, Bool, true, false, ◌||◌, ltb, cond, ok_or, ◌⊎◌, List, [], ◌++◌, length, take, drop, Some, None, Ok, Err, Option, Result, sym, refl, inl, inr, ap, ◌∙◌, subst, append_assoc, append-nil, arith}
 use Rattle.std.specs.Prelude.{nat_le}
-use Rattle.std.proofs.lemmas.List.{take_at, drop_at, drop-drop, length-append, length-take-le, take-append-drop}
-use Rattle.std.proofs.lemmas.Bool.{or_parts, le-ltb, ltb-false, ltb-true}
+use Rattle.std.proofs.lemmas.List.{take_all, take_at, take-append-le, drop_at, drop-drop, length-append, length-drop, length-take-le, take-append-drop}
+use Rattle.std.proofs.Math.Seq.{take-append-add}
+use Rattle.std.proofs.lemmas.Bool.{or_parts, cond-true, le-leb, leb-true, le-ltb, ltb-false, ltb-true}
 use Rattle.std.proofs.lemmas.Bool.Decides.{nat_tests}
 use Rattle.text.specs.declared.pen.Pen.{Pen}
-use Rattle.text.specs.Pens.{PenState, pen_state, state_at_front, measuring_state, with_text_at, TextWritten, Writes, with_front, buffer_after, length_if_fits}
+use Rattle.text.specs.Pens.{PenState, pen_state, state_at_front, measuring_state, with_text_at, out_after, after_put, written, TextWritten, Writes, with_front, buffer_after, length_if_fits}
 
 -- a pen that was not overflowed is overflowed exactly where the text is longer than the room
 measures : {text : List ℕ} {a b : PenState} → TextWritten text a b → a.overflowed ≡ false → b.overflowed ≡ ltb a.room (length text)
@@ -25,13 +26,74 @@ fits_before w e = ltb-false _ _ (or_parts _ _ (sym w.overflow ∙ e)).1
 with_text_at_nil : (at : ℕ) (out : List ℕ) → out ≡ with_text_at [] at out
 with_text_at_nil at out = let same : at + 0 ≡ at = omega arith in rw same (sym (take-append-drop at out))
 
+with_none_at : (n : ℕ) (text : List ℕ) (at : ℕ) (out : List ℕ) → out ≡ with_text_at (take (n - n) text) at out
+with_none_at n text at out = let none : n - n ≡ 0 = omega arith in rw none (with_text_at_nil at out)
+
 text_written_nil : (a : PenState) → TextWritten [] a a
 text_written_nil a = record {
   overflow = grind (arith, nat_tests);
   room_left = λ _. omega arith;
-  text_there = λ _ _. with_text_at_nil (length a.out - a.room) a.out;
+  less_room = omega arith;
+  no_longer = omega arith;
+  text_there = λ _. with_none_at a.room [] (length a.out - a.room) a.out;
   same_length = refl;
+  silent = λ _. refl;
 }
+
+-- one text in one piece
+length-with_text_at : (text out : List ℕ) (at : ℕ) → at + length text ≤ length out → length (with_text_at text at out) ≡ length out
+length-with_text_at text out at room =
+    length-append (take at out) (text ++ drop (at + length text) out)
+    ∙ omega (arith, length-take-le at out (omega arith), length-append text (drop (at + length text) out), length-drop (at + length text) out)
+
+module _ (text : List ℕ) (a : PenState) where
+  abbrev marked : PenState
+  marked = record { out = a.out; room = a.room; overflowed = true }
+
+  abbrev spent : PenState
+  spent = record { out = out_after text a; room = a.room - length text; overflowed = false }
+
+  misfit_writes : (a.overflowed || ltb a.room (length text)) ≡ true → TextWritten text a marked
+  misfit_writes over = record {
+    overflow = sym over;
+    room_left = λ clear. absurd (cc);
+    less_room = omega arith;
+    no_longer = omega arith;
+    text_there = λ _. with_none_at a.room text (length a.out - a.room) a.out;
+    same_length = refl;
+    silent = λ was. rw was refl;
+  }
+
+  same_length_after : length text ≤ a.room → length (out_after text a) ≡ length a.out
+  same_length_after room = by (nat_le a.room (length a.out)) refl
+    where
+      by : (real : Bool) → nat_le a.room (length a.out) ≡ real → length (cond real (with_text_at text (length a.out - a.room) a.out) a.out) ≡ length a.out
+      by true real = length-with_text_at text a.out (length a.out - a.room) (omega (arith, leb-true _ _ real))
+      by false _ = refl
+
+  fit_writes : (a.overflowed || ltb a.room (length text)) ≡ false → TextWritten text a spent
+  fit_writes fit =
+      let parts = or_parts a.overflowed (ltb a.room (length text)) fit in
+      let clear : a.overflowed ≡ false = parts.0 in
+      let room : length text ≤ a.room = ltb-false a.room (length text) parts.1 in
+      record {
+        overflow = sym fit;
+        room_left = λ _. refl;
+        less_room = omega arith;
+        no_longer = omega arith;
+        text_there = λ real.
+            let all : take (a.room - (a.room - length text)) text ≡ text = take_all _ text (omega arith) in
+            rw all (cond-true _ _ _ (le-leb _ _ real));
+        same_length = same_length_after room;
+        silent = λ was. absurd (cc);
+      }
+
+  pub put_writes : TextWritten text a (after_put text a)
+  put_writes = by (a.overflowed || ltb a.room (length text)) refl
+    where
+      by : (over : Bool) → (a.overflowed || ltb a.room (length text)) ≡ over → TextWritten text a (cond over marked spent)
+      by true over = misfit_writes over
+      by false fit = fit_writes fit
 
 -- one text after the other
 with_text_at_more : (t u out : List ℕ) (at : ℕ) → at + length t ≤ length out → with_text_at u (at + length t) (with_text_at t at out) ≡ with_text_at (t ++ u) at out
@@ -51,24 +113,48 @@ with_text_at_more t u out at room =
 overflow_more : (p q r : Bool) (m n k l : ℕ) → q ≡ (p || ltb m k) → (q ≡ false → n ≡ m - k) → r ≡ (q || ltb n l) → r ≡ (p || ltb m (k + l))
 overflow_more p q r m n k l first left second = grind (arith, nat_tests)
 
+-- a front of the first text, and of the second one where the first was written whole
+take_both : (t u : List ℕ) (m n : ℕ) → (m ≡ length t) ⊎ (n ≡ 0) → m ≤ length t → take (m + n) (t ++ u) ≡ take m t ++ take n u
+take_both t u m n (inl whole) _ = rw whole (take-append-add t u n ∙ ap (λ x. x ++ take n u) (sym (take_all (length t) t (omega arith))))
+take_both t u m n (inr none) inside =
+    let same : m + 0 ≡ m = omega arith in
+    rw (none, same) (take-append-le m t u inside ∙ sym (append-nil (take m t)))
+
+-- the first of two texts was written whole, or nothing of the second
+first_whole : {t u : List ℕ} {a b c : PenState} → TextWritten t a b → TextWritten u b c → (written a b ≡ length t) ⊎ (written b c ≡ 0)
+first_whole {t = t} {a = a} {b = b} {c = c} f g = by b.overflowed refl
+  where
+    by : (over : Bool) → b.overflowed ≡ over → (written a b ≡ length t) ⊎ (written b c ≡ 0)
+    by true over = let same : c.room ≡ b.room = ap (λ (p : PenState). p.room) (g.silent over) in inr (omega arith)
+    by false clear = inl (omega (arith, f.room_left clear, fits_before f clear))
+
 text_written_more : {t u : List ℕ} {a b c : PenState} → TextWritten t a b → TextWritten u b c → TextWritten (t ++ u) a c
-text_written_more {t = t} {u = u} {a = a} {b = b} f g =
+text_written_more {t = t} {u = u} {a = a} {b = b} {c = c} f g =
     let both = length-append t u in
+    let less = f.less_room in
+    let less_then = g.less_room in
+    let long = f.no_longer in
+    let long_then = g.no_longer in
+    let same = f.same_length in
     record {
       overflow = rw both (overflow_more a.overflowed b.overflowed _ a.room b.room (length t) (length u) f.overflow f.room_left g.overflow);
       room_left = λ e. omega (arith, f.room_left (clear_before g e), g.room_left e);
-      text_there = λ e real.
-          let clear = clear_before g e in
-          let room = fits_before f clear in
-          let less = f.room_left clear in
-          let same = f.same_length in
+      less_room = omega arith;
+      no_longer = omega arith;
+      text_there = λ real.
+          let m = written a b in
+          let n = written b c in
           let at : ℕ = length a.out - a.room in
-          let place : length b.out - b.room ≡ at + length t = omega arith in
-          g.text_there e (omega arith)
-          ∙ ap (λ k. with_text_at u k b.out) place
-          ∙ ap (with_text_at u (at + length t)) (f.text_there clear real)
-          ∙ with_text_at_more t u a.out at (omega arith);
+          let short : length (take m t) ≡ m = length-take-le m t long in
+          let place : length b.out - b.room ≡ at + length (take m t) = omega arith in
+          let sum : a.room - c.room ≡ m + n = omega arith in
+          g.text_there (omega arith)
+          ∙ ap (λ k. with_text_at (take n u) k b.out) place
+          ∙ ap (with_text_at (take n u) (at + length (take m t))) (f.text_there real)
+          ∙ with_text_at_more (take m t) (take n u) a.out at (omega arith)
+          ∙ ap (λ x. with_text_at x at a.out) (sym (ap (λ k. take k (t ++ u)) sum ∙ take_both t u m n (first_whole f g) long));
       same_length = g.same_length ∙ f.same_length;
+      silent = λ e. let still = f.silent e in g.silent (ap (λ (p : PenState). p.overflowed) still ∙ e) ∙ still;
     }
 
 -- The same of the pens themselves.
@@ -99,10 +185,19 @@ leads_end {b = b} leads = leads b (writes_nil b)
 
 -- a text at the front of a buffer
 front_fits : {text out : List ℕ} {b : PenState} → TextWritten text (state_at_front out) b → b.overflowed ≡ false → (b.out ≡ with_front text out) × (b.room ≡ length out - length text)
-front_fits {text = text} {out = out} w e =
+front_fits {text = text} {out = out} {b = b} w e =
+    let room : length text ≤ length out = fits_before w e in
+    let left = w.room_left e in
+    let whole : take (length out - b.room) text ≡ text = take_all _ text (omega arith) in
     let front : length out - length out ≡ 0 = omega arith in
     let next : 0 + length text ≡ length text = omega arith in
-    (w.text_there e (omega arith) ∙ ap (λ at. with_text_at text at out) front ∙ ap (λ k. text ++ drop k out) next, w.room_left e)
+    let there : b.out ≡ with_front text out =
+    w.text_there (omega arith)
+    ∙ ap (λ t. with_text_at t (length out - length out) out) whole
+    ∙ ap (λ at. with_text_at text at out) front
+    ∙ ap (λ k. text ++ drop k out) next
+    in
+    (there, left)
 
 -- The two ends of `write_text`. The measuring pen overflowed, so the text is too long:
 measured_long : {text : List ℕ} (out : List ℕ) {a b : PenState} → a ≡ measuring_state (length out) → TextWritten text a b → true ≡ b.overflowed → length out < length text

@@ -1,9 +1,8 @@
 -- How the levels of a kind are read from text: line by line, with a refusal by fault and line. Assumes nothing.
 use Rattle.std.specs.Prelude.{◌≡◌, ℕ, ◌-◌, List, Some, None, Ok, Err, Option, Result}
 use Rattle.refusals.specs.declared.Fault.{Fault}
-use Rattle.refusals.specs.declared.Fault.TheVariants.{NotText, LineForm}
 use Rattle.refusals.specs.declared.Refusal.{Refusal}
-use Rattle.refusals.specs.Refusals.{refusal}
+use Rattle.refusals.specs.Refusals.{refusal, refused}
 use Rattle.text.specs.Lines.{read_text}
 
 -- the lines of a kind: the state before the first line, the state after a line or why the line is refused, and where no
@@ -21,7 +20,7 @@ at_line n (Err f) = Err (refusal f n)
 -- where line n would come next: an early end is refused there, and a level as a whole at its last line
 abbrev pub level_before : {L : Type 0} → ℕ → Option (Result L Fault) → Result L Refusal
 level_before n (Some r) = at_line (n - 1) r
-level_before n None = Err (refusal LineForm n)
+level_before n None = Err (refused 12 n)
 
 module _ {S L : Type 0} (g : Grammar S L) where
   -- the state after line n
@@ -34,7 +33,7 @@ module _ {S L : Type 0} (g : Grammar S L) where
 
   -- the level that a text spells, or why it spells none
   abbrev pub read_level : List ℕ → Result L Refusal
-  read_level text = read_text after_line at_end g.start (refusal NotText 0) text
+  read_level text = read_text after_line at_end g.start (refused 11 0) text
 
 -- a text is read as a level exactly where it is that level written out
 pub record ReadsExactly {L : Type 0} (read : List ℕ → Result L Refusal) (Valid : L → Type 0) (level_text : L → List ℕ) (text : List ℕ) : Type 0 where

@@ -1,4 +1,6 @@
 //! The forms that lines of levels and ways have.
+//!
+//! Of the line that is left after a piece these functions say the bytes. Where it lies in the text is free.
 ghost use Rattle.std.specs.Prelude.{◌≡◌, ℕ, List, Option};
 ghost use Rattle.std.specs.Option.{option_map};
 ghost use Rattle.std.specs.List.{prefix_len};

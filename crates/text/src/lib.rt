@@ -11,6 +11,7 @@ pub mod pen;
 mod pieces;
 mod read_text;
 mod reader;
+mod refusal;
 mod run;
 
 pub use level_reader::{LevelReader, read_level};

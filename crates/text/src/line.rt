@@ -10,7 +10,7 @@ const MOST_BYTES: usize = 4096;
 ///
 /// It goes from the place `at` to the end of `text`, which is the whole text up to the end of the line, so that
 /// every place in it is a place in the text.
-#[derive(Clone, Copy, Debug, PartialEq, Eq)]
+#[derive(Clone, Copy, Debug)]
 pub struct Line<'a> {
     pub text: &'a [u8],
     pub at: usize,

@@ -4,7 +4,7 @@
 //! which has no buffer, and then, if the text fits, with a pen over the buffer. So a text that does not
 //! fit leaves the buffer as it was.
 ghost use Rattle.std.specs.Prelude.{◌≡◌, ℕ, List};
-ghost use Rattle.text.specs.Pens.{pen_state, state_at_front, measuring_state, Writes, buffer_after, length_if_fits};
+ghost use Rattle.text.specs.Pens.{pen_state, state_at_front, measuring_state, after_put, Writes, buffer_after, length_if_fits};
 
 use itoa::{Buffer, Integer};
 
@@ -58,7 +58,8 @@ impl<'a> Pen<'a> {
 
     /// Writes `text` if it fits. If not, the pen has overflowed, and writes nothing from then on.
     pub fn put(&mut self, text: &[u8])
-        ensures { Writes text.now self.old self.new }
+        ensures exactly { pen_state self.new ≡ after_put text.now (pen_state self.old) }
+        ensures wrote { Writes text.now self.old self.new }
     {
         if self.overflowed || text.len() > self.room {
             self.overflowed = true;
@@ -71,9 +72,10 @@ impl<'a> Pen<'a> {
         self.room -= text.len();
     }
 
-    /// Writes `n` in decimal.
+    /// Writes `n` in decimal, as `put` writes a text.
     pub fn put_decimal<I: Integer>(&mut self, n: I)
-        ensures { Writes (I.text n) self.old self.new }
+        ensures exactly { pen_state self.new ≡ after_put (I.text n) (pen_state self.old) }
+        ensures wrote { Writes (I.text n) self.old self.new }
     {
         let mut digits = Buffer::new();
         self.put(digits.format(n).as_bytes());
@@ -86,7 +88,8 @@ impl<'a> Pen<'a> {
 pub trait Compose {
     ghost text: { Self → List ℕ };
 
-    /// Writes the text.
+    /// Writes the text, in any pieces. If it does not fit, the pen has overflowed, and a front of the text was written.
+    /// How long a front is free: it is the pieces before the one that did not fit.
     fn compose(&self, pen: &mut Pen)
         ensures { Writes (text self.now) pen.old pen.new };
 }

@@ -7,7 +7,7 @@ use super::number::read_number;
 use super::run::{ByteClass, bytes_from, run_end};
 
 /// A piece of a line: a bracket, a number of one to seven digits without leading zero, or any other word.
-#[derive(Clone, Copy, Debug, PartialEq, Eq)]
+#[derive(Clone, Copy, Debug)]
 pub enum Token<'a> {
     Open,
     Close,
@@ -16,7 +16,7 @@ pub enum Token<'a> {
 }
 
 /// A piece with its place in the text.
-#[derive(Clone, Copy, Debug, PartialEq, Eq)]
+#[derive(Clone, Copy, Debug)]
 pub struct Piece<'a> {
     pub token: Token<'a>,
     pub at: usize,

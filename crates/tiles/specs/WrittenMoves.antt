@@ -14,6 +14,7 @@ direction_in l = arguments_of (codes "move") l then word_in then last_only then 
 abbrev pub direction_line : Direction → List ℕ
 direction_line d = arguments_line (codes "move") (32 ∷ word_of d)
 
+-- nothing where there is no direction: of a number past the last move
 abbrev pub move_line : Option Direction → List ℕ
 move_line (Some d) = direction_line d
 move_line None = []

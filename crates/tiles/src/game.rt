@@ -60,15 +60,21 @@ impl Puzzle for TileLevel {
             .all(|(cell, tile)| usize::from(tile) == home_tile(count, cell))
     }
 
-    fn lower_bound(&self, at: &u64) -> Option<u16> {
+    fn lower_bound(&self, at: &u64) -> Option<u16>
+        ensures { result ≡ (meaning (tiles self.now)).lower_bound at.now }
+    {
         Some(self.manhattan(*at))
     }
 
-    fn key(&self, at: &u64) -> u32 {
+    fn key(&self, at: &u64) -> u32
+        ensures { result ≡ (meaning (tiles self.now)).key at.now }
+    {
         key_of(mix(0, *at))
     }
 
-    fn is_same(&self, one: &u64, other: &u64) -> bool {
+    fn is_same(&self, one: &u64, other: &u64) -> bool
+        ensures { result ≡ (meaning (tiles self.now)).same one.now other.now }
+    {
         one == other
     }
 }

@@ -12,7 +12,7 @@ pub use making::is_side;
 /// A sliding-tile level: 2 to 4 cells wide and high, each tile number on exactly one cell.
 ///
 /// A position is one number with four bits a cell in reading order, the first cell lowest, 0 for the blank.
-#[derive(Clone, Copy, Debug, PartialEq, Eq)]
+#[derive(Clone, Copy, Debug)]
 pub struct TileLevel {
     pub(crate) grid: Grid,
     pub(crate) start: u64,

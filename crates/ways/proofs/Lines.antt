@@ -1,8 +1,6 @@
 -- The lines of a way, one move after the other. Assumes nothing.
-use Rattle.std.proofs.Common.{◌≡◌, ℕ, ◌+◌, ◌<◌, Bool, true, false, cond, ltb, List, [], ◌∷◌, length, get_or, drop, Some, None, Ok, Err, Option, Result, sym, refl, ap, ◌∙◌, arith}
-use Rattle.std.specs.Prelude.{IsSome}
+use Rattle.std.proofs.Common.{◌≡◌, ℕ, ◌+◌, ◌<◌, List, [], ◌∷◌, length, get_or, drop, Some, None, Ok, Err, Option, Result, sym, refl, ap, ◌∙◌, arith}
 use Rattle.std.proofs.lemmas.List.{at_drop_more}
-use Rattle.std.proofs.lemmas.Bool.{false≢true}
 use Rattle.refusals.specs.declared.Fault.TheVariants.{ClosedMove}
 use Rattle.refusals.specs.declared.Refusal.{Refusal}
 use Rattle.refusals.specs.Refusals.{refusal}
@@ -13,20 +11,6 @@ use Rattle.ways.specs.Writing.{destination, last_destination, Playable, move_lin
 
 module _ {P : Type 0} (g : Game P) where
   -- an open move is a move of the game
-  pub destination_leads : (p q : P) (m : ℕ) → destination g p m ≡ Some q → g.move p m ≡ Some q
-  destination_leads p q m e = by (ltb m g.count) e
-    where
-      by : (b : Bool) → cond b (g.move p m) None ≡ Some q → g.move p m ≡ Some q
-      by true e = e
-      by false e = absurd (cc)
-
-  pub some_destination : (p : P) (m : ℕ) → IsSome (destination g p m) → (q : P) × (destination g p m ≡ Some q)
-  some_destination p m = by (destination g p m)
-    where
-      by : (o : Option P) → IsSome o → (q : P) × (o ≡ Some q)
-      by (Some q) h = (q, refl)
-      by None h = absurd (false≢true h)
-
   abbrev pub on : ℕ → List ℕ → Option P → Result P Refusal
   on n ms o = elim o [ Some q ↦ last_destination g q (n + 1) ms | None ↦ Err (refusal ClosedMove n) ]
 

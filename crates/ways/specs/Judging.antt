@@ -1,8 +1,7 @@
 -- What the judge says of a written way. Assumes nothing.
 use Rattle.std.specs.Prelude.{◌≡◌, ℕ, ◌+◌, ◌<◌, true, false, cond, List, [], ◌∷◌, ◌++◌, map, length, Some, None, Ok, Err, codes, Result, ◌==◌}
-use Rattle.refusals.specs.declared.Fault.TheVariants.{WayForm, AfterFinish, NotFinished}
 use Rattle.refusals.specs.declared.Refusal.{Refusal}
-use Rattle.refusals.specs.Refusals.{refusal}
+use Rattle.refusals.specs.Refusals.{refusal, refused}
 use Rattle.puzzle.specs.Game.{Game, Solves}
 use Rattle.text.specs.Lines.{split}
 use Rattle.text.specs.Reading.{map_ok}
@@ -45,28 +44,28 @@ module _ {P W : Type 0} (g : Game P) (k : Spelling P W) where
   abbrev pub position_after : P → ℕ → W → Result P Refusal
   position_after p n w =
       elim (k.outcome p w) [
-        | Ok q ↦ cond (g.finished p) (Err (refusal AfterFinish n)) (Ok q)
+        | Ok q ↦ cond (g.finished p) (Err (refused 44 n)) (Ok q)
         | Err e ↦ Err (refusal (fault_of e) n)
       ]
 
   -- the finished position after the moves from line n on
   abbrev pub last_position : P → ℕ → List W → Result P Refusal
-  last_position p n [] = cond (g.finished p) (Ok p) (Err (refusal NotFinished n))
+  last_position p n [] = cond (g.finished p) (Ok p) (Err (refused 45 n))
   last_position p n (w ∷ ws) = elim (position_after p n w) [ Ok q ↦ last_position q (n + 1) ws | Err e ↦ Err e ]
 
   -- a way that says that it has n moves
   abbrev pub judgement_of_moves : ℕ → Result (List W) ℕ → Result ℕ Refusal
   judgement_of_moves n (Ok ws) =
-      cond (n == length ws) (map_ok (λ _. n) (last_position g.start 2 ws)) (Err (refusal WayForm 1))
-  judgement_of_moves n (Err line) = Err (refusal WayForm line)
+      cond (n == length ws) (map_ok (λ _. n) (last_position g.start 2 ws)) (Err (refused 41 1))
+  judgement_of_moves n (Err line) = Err (refused 41 line)
 
   abbrev pub judgement_of_parts : List (List ℕ) → Result ℕ Refusal
-  judgement_of_parts [] = Err (refusal WayForm 1)
-  judgement_of_parts (l ∷ []) = Err (refusal WayForm 1)
+  judgement_of_parts [] = Err (refused 41 1)
+  judgement_of_parts (l ∷ []) = Err (refused 41 1)
   judgement_of_parts (l ∷ m ∷ ms) =
       elim (count_of way_keyword l) [
         | Some n ↦ judgement_of_moves n (moves_from k 2 (m ∷ ms))
-        | None ↦ Err (refusal WayForm 1)
+        | None ↦ Err (refused 41 1)
       ]
 
   -- the number of moves of a way that is accepted, or why it is not

@@ -1,20 +1,22 @@
 -- How the moves of a game are written. Assumes nothing.
-use Rattle.std.specs.Prelude.{◌≡◌, ℕ, ◌<◌, List, Some, None, Ok, Err, Option, Result}
+use Rattle.std.specs.Prelude.{◌≡◌, ℕ, ◌<◌, ◌≤◌, List, length, Some, None, Ok, Err, Option, Result}
 use Rattle.refusals.specs.declared.Fault.{Fault}
-use Rattle.refusals.specs.declared.Fault.TheVariants.{NothingThere, ClosedMove}
+use Rattle.refusals.specs.Refusals.{fault}
 use Rattle.puzzle.specs.Game.{Game, Reached}
 use Rattle.puzzle.specs.Meaning.{Meaning}
 use Rattle.text.specs.Lines.{OneLine}
 use Rattle.text.specs.Forms.{closing}
-use Rattle.text.specs.declared.pen.Pen.{Pen}
-use Rattle.text.specs.Pens.{Writes}
 use Rattle.ways.specs.declared.notation.IllegalMove.{IllegalMove}
 use Rattle.ways.specs.declared.notation.IllegalMove.TheVariants as illegal
 
 -- the reason under which the judge refuses a move that is not legal
 abbrev pub fault_of : IllegalMove → Fault
-fault_of illegal.NothingThere = NothingThere
-fault_of illegal.Closed = ClosedMove
+fault_of illegal.NothingThere = fault 42
+fault_of illegal.Closed = fault 43
+
+-- no line of an open move has more bytes
+abbrev pub longest_line : ℕ
+longest_line = 31
 
 -- P are the positions, W what a move line says
 pub record Spelling (P W : Type 0) : Type 0 where
@@ -22,7 +24,7 @@ pub record Spelling (P W : Type 0) : Type 0 where
   pub reading : List ℕ → Option W
   -- where a written move leads from a position, or why it is no legal move there
   pub outcome : P → W → Result P IllegalMove
-  -- the line that writes a move of a position
+  -- what is written of a move number at a position, open or closed: its line, or nothing where it has none
   pub line : P → ℕ → List ℕ
 
 -- a move by its number, where it is written as one: closed, or where it leads
@@ -41,10 +43,6 @@ abbrev pub FollowsIn : {P W : Type 0} → Meaning P → Spelling P W → P → W
 FollowsIn m k p w answer old new = Reached m.game p → FollowsTo (k.outcome p w) answer old new
 
 module _ {P W : Type 0} (g : Game P) (k : Spelling P W) where
-  -- the line of an open move was written
-  abbrev pub WritesMove : P → ℕ → Pen → Pen → Type 0
-  WritesMove p m old new = Reached g p → (q : P) → g.move p m ≡ Some q → Writes (k.line p m) old new
-
   -- what the line of a move says that leads to q: it is one line, in form, and leads there
   pub record Spells (p : P) (m : ℕ) (q : P) : Type 0 where
     pub said : W
@@ -61,6 +59,8 @@ module _ {P W : Type 0} (g : Game P) (k : Spelling P W) where
   pub record Lawful : Type 0 where
     -- the line of an open move is in form, and leads where the move leads
     pub spells : (p q : P) (m : ℕ) → Reached g p → m < g.count → g.move p m ≡ Some q → Spells p m q
+    -- and is no longer than that
+    pub short : (p q : P) (m : ℕ) → Reached g p → m < g.count → g.move p m ≡ Some q → length (k.line p m) ≤ longest_line
     -- a written move that can be followed is a legal move
     pub legal : (p q : P) (w : W) → k.outcome p w ≡ Ok q → Legal p q
     -- a closing bracket is no move line

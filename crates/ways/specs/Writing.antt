@@ -1,13 +1,12 @@
 -- A way as text, from a list of move numbers. Assumes nothing.
-use Rattle.std.specs.Prelude.{◌≡◌, ℕ, ◌+◌, ◌≤◌, Bool, cond, ◌&&◌, List, [], ◌∷◌, ◌++◌, length, drop, Some, None, Ok, Err, Option, Result, nat_le, nat_lt}
-use Rattle.refusals.specs.declared.Fault.TheVariants.{ClosedMove, NoRoom}
+use Rattle.std.specs.Prelude.{◌≡◌, ℕ, ◌+◌, ◌*◌, ◌≤◌, Bool, cond, ◌&&◌, List, [], ◌∷◌, ◌++◌, length, drop, Some, None, Ok, Err, Option, Result, nat_le, nat_lt}
 use Rattle.refusals.specs.declared.Refusal.{Refusal}
-use Rattle.refusals.specs.Refusals.{refusal}
+use Rattle.refusals.specs.Refusals.{refused}
 use Rattle.puzzle.specs.Game.{Game, Solves}
 use Rattle.text.specs.Lines.{join_lines}
 use Rattle.text.specs.Reading.{map_ok}
 use Rattle.text.specs.Forms.{count_line, closing}
-use Rattle.ways.specs.Notations.{Spelling}
+use Rattle.ways.specs.Notations.{longest_line, Spelling}
 use Rattle.ways.specs.Judging.{way_keyword, judgement}
 
 module _ {P : Type 0} (g : Game P) where
@@ -19,7 +18,7 @@ module _ {P : Type 0} (g : Game P) where
   abbrev pub last_destination : P → ℕ → List ℕ → Result P Refusal
   last_destination p n [] = Ok p
   last_destination p n (m ∷ ms) =
-      elim (destination p m) [ Some q ↦ last_destination q (n + 1) ms | None ↦ Err (refusal ClosedMove n) ]
+      elim (destination p m) [ Some q ↦ last_destination q (n + 1) ms | None ↦ Err (refused 43 n) ]
 
   -- whether all moves are open
   abbrev pub move_check : List ℕ → Result (Unit {0}) Refusal
@@ -46,7 +45,7 @@ module _ {P W : Type 0} (g : Game P) (k : Spelling P W) where
   abbrev pub written_length : List ℕ → List ℕ → Result ℕ Refusal
   written_length ms out =
       elim (move_check g ms) [
-        | Ok _ ↦ cond (fits ms out) (Ok (length (way_text ms))) (Err (refusal NoRoom 0))
+        | Ok _ ↦ cond (fits ms out) (Ok (length (way_text ms))) (Err (refused 21 0))
         | Err e ↦ Err e
       ]
 
@@ -57,3 +56,8 @@ module _ {P W : Type 0} (g : Game P) (k : Spelling P W) where
   -- what is written of moves that solve the level is a way that the judge accepts
   abbrev pub WritesAccepted : List ℕ → Type 0
   WritesAccepted ms = Solves g g.start ms → length ms ≤ 9999999 → judgement g k (way_text ms) ≡ Ok (length ms)
+
+  -- The text of n moves is no longer than n + 1 of the longest lines with their ends: the head and the closing bracket
+  -- take no more than one.
+  abbrev pub IsShort : List ℕ → Type 0
+  IsShort ms = length ms ≤ 9999999 → length (way_text ms) ≤ (length ms + 1) * (longest_line + 1)

@@ -8,5 +8,5 @@ mod walk;
 mod writing;
 
 pub use judging::judge;
-pub use notation::{IllegalMove, Notation};
+pub use notation::{IllegalMove, LONGEST_LINE, Notation};
 pub use writing::write_way;

@@ -1,6 +1,7 @@
 ghost use Rattle.std.specs.Prelude.{◌≡◌};
 ghost use Rattle.text.specs.Lines.{bytes};
-ghost use Rattle.ways.specs.Notations.{fault_of, Spelling, FollowsIn, WritesMove, Lawful};
+ghost use Rattle.text.specs.Pens.{Writes};
+ghost use Rattle.ways.specs.Notations.{fault_of, Spelling, FollowsIn, Lawful};
 
 use puzzle::Puzzle;
 use refusals::Fault;
@@ -8,7 +9,7 @@ use text::Line;
 use text::pen::Pen;
 
 /// Why a written move is no legal move of a position.
-#[derive(Clone, Copy, Debug, PartialEq, Eq)]
+#[derive(Clone, Copy, Debug)]
 pub enum IllegalMove {
     /// Nothing stands where the move is said to begin.
     NothingThere,
@@ -28,9 +29,10 @@ impl From<IllegalMove> for Fault {
     }
 }
 
-/// A puzzle whose moves are written.
-///
-/// Its spelling says how. Of positions that no legal moves lead to, the answers are free, but safe.
+/// No line of an open move, of any kind, has more bytes; with its line end that makes 32.
+pub const LONGEST_LINE: usize = 31;
+
+/// A puzzle whose moves are written. Its spelling says how.
 pub trait Notation: Puzzle {
     /// What a move line says.
     type Written: Copy;
@@ -42,6 +44,7 @@ pub trait Notation: Puzzle {
         ensures { result ≡ (spelling self.now).reading (bytes line.entry) };
 
     /// Follows a written move from a position: fills `into` with where it leads, or says why it is no legal move there.
+    /// From a position that no legal moves lead to it is safe, and what it answers and writes is free.
     fn follow(
         &self,
         from: &Self::Position,
@@ -50,10 +53,9 @@ pub trait Notation: Puzzle {
     ) -> Result<(), IllegalMove>
         ensures { FollowsIn (Self.meaning self.now) (spelling self.now) from.now written.now result into.old into.new };
 
-    /// Writes the line of an open move, without its line end.
+    /// Writes the line of a move number, open or closed, without its line end; nothing, where the number has no line.
     fn write_move(&self, at: &Self::Position, number: u32, pen: &mut Pen)
-        ensures wrote { WritesMove (Self.meaning self.now).game (spelling self.now) at.now number pen.old pen.new }
-        ensures same { pen.new.out.ghost_name ≡ pen.old.out.ghost_name };
+        ensures { Writes ((spelling self.now).line at.now number) pen.old pen.new };
 
     ghost readable: { (z : Self) → Lawful (Self.meaning z).game (spelling z) };
 }

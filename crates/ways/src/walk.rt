@@ -1,6 +1,7 @@
 ghost use Rattle.std.specs.Prelude.{◌≡◌};
 ghost use Rattle.puzzle.specs.Game.{Reached};
-ghost use Rattle.ways.specs.inside.Walking.{move_judgement, PlaysNumber, FollowsLine, end_judgement, WritesOpen};
+ghost use Rattle.text.specs.Pens.{Writes};
+ghost use Rattle.ways.specs.inside.Walking.{move_judgement, PlaysNumber, FollowsLine, end_judgement};
 
 use crate::notation::{IllegalMove, Notation};
 use refusals::{Fault, Refusal};
@@ -79,10 +80,9 @@ impl<'a, L: Notation> Walk<'a, L> {
         Ok(())
     }
 
-    /// Writes the line of a move that is open, without its line end.
+    /// Writes the line of a move number, without its line end.
     pub(crate) fn write_move(&self, number: u32, pen: &mut Pen)
-        ensures { let z = self.now.level.now in
-            WritesOpen (L.meaning z).game (L.spelling z) self.now.position number pen.old pen.new }
+        ensures { Writes ((L.spelling self.now.level.now).line self.now.position number) pen.old pen.new }
     {
         self.level.write_move(&self.position, number, pen);
     }

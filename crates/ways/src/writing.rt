@@ -1,5 +1,5 @@
 ghost use Rattle.std.specs.Prelude.{◌≡◌, Ok, Err};
-ghost use Rattle.ways.specs.Writing.{move_check, Playable, way_text, written_length, buffer_after, WritesAccepted};
+ghost use Rattle.ways.specs.Writing.{move_check, Playable, way_text, written_length, buffer_after, WritesAccepted, IsShort};
 ghost use Rattle.ways.specs.inside.Walking.{WritesMoves};
 
 use crate::notation::Notation;
@@ -65,11 +65,13 @@ impl<'a, L: Notation> Compose for WayText<'a, L> {
 /// Writes the way of a list of move numbers at the front of a buffer, and answers how long its text is.
 ///
 /// A closed move is refused first, with the line that it would have; then a text that does not fit, or a way of more
-/// than 9,999,999 moves. A refusal leaves the buffer as it was.
+/// than 9,999,999 moves. A refusal leaves the buffer as it was. A buffer of as many bytes as the longest line has with
+/// its end, for each move and once more, has room for the text.
 pub fn write_way<L: Notation>(level: &L, moves: &[u32], out: &mut [u8]) -> Result<usize, Refusal>
     ensures after { out.new ≡ buffer_after (L.meaning level.now).game (L.spelling level.now) moves.now out.old }
     ensures answers { result ≡ written_length (L.meaning level.now).game (L.spelling level.now) moves.now out.old }
     ensures accepted { WritesAccepted (L.meaning level.now).game (L.spelling level.now) moves.now }
+    ensures short { IsShort (L.meaning level.now).game (L.spelling level.now) moves.now }
 {
     check_moves(level, moves)?;
     if moves.len() > MOST_MOVES {

@@ -1,22 +1,26 @@
--- What the search found, and the answer that tells it. Assumes nothing.
-use Rattle.std.specs.Prelude.{◌≡◌, ℕ, ◌+◌, ◌<◌, List, Ok}
-use Rattle.puzzle.specs.Game.{CanReach}
+-- What is known once a puzzle was searched. Assumes nothing.
+use Rattle.std.specs.Prelude.{◌≡◌, ℕ, List}
 use Rattle.puzzle.specs.Meaning.{Meaning}
+use Rattle.search_theory.specs.declared.Verdict.{Verdict}
+use Rattle.search_theory.specs.declared.Verdict.TheVariants.{Running, Solved, Unsolvable, TableFull}
+use Rattle.search_theory.specs.Steps.{State}
 use Rattle.search_theory.specs.Calls.{RecitesWay}
-use Rattle.levels.specs.Levels.{Rules}
-use Rattle.judgement.specs.Judgement.{judgement_by}
-use Rattle.answers.specs.declared.solving.Found.{Found}
-use Rattle.answers.specs.declared.solving.Found.TheVariants.{Way, NoWay, TooMany}
-use Rattle.answers.specs.Answers as answers
+use Rattle.search_theory.specs.Promise.{Says}
+use Rattle.answers.specs.Answers.{places, Ends}
 
--- what a search over a table of some places found, and the list that its moves are in
-abbrev pub Finds : {P : Type 0} → Meaning P → ℕ → List ℕ → Found → List ℕ → Type 0
-Finds m places old (Way n) new = (n < places) × RecitesWay m n old new × answers.NoFewer m.game n
-Finds m places old NoWay new = answers.NoWay m.game
-Finds m places old TooMany new = CanReach m.game (places + 1)
+module _ {P : Type 0} (m : Meaning P) where
+  -- what a final verdict leaves in the list that moves are written in
+  abbrev pub Leaves : Verdict → List ℕ → List ℕ → Type 0
+  Leaves (Solved n) old new = RecitesWay m n old new
+  Leaves Unsolvable old new = Unit {0}
+  Leaves TableFull old new = Unit {0}
+  Leaves Running old new = ⊥
 
--- what the answer tells of a level with these rules
-pub data Tells (r : Rules) (answer : List ℕ) : Type 0 where
-  way : (n : ℕ) → judgement_by r answer ≡ Ok n → answers.NoFewer r.game n → Tells r answer
-  none : answer ≡ answers.none_text → answers.NoWay r.game → Tells r answer
-  full : answer ≡ answers.full_text → CanReach r.game (answers.places + 1) → Tells r answer
+  -- the search ended with this verdict
+  pub record Finds (verdict : Verdict) (old new : List ℕ) : Type 0 where
+    pub last : State P
+    pub ends : Ends m last
+    pub only : (other : State P) → Ends m other → other ≡ last
+    pub verdict_is : last.verdict ≡ verdict
+    pub means : Says m places verdict
+    pub leaves : Leaves verdict old new

@@ -3,8 +3,8 @@ use Rattle.std.specs.Prelude.{ℕ, ◌-◌, Bool, cond, ◌&&◌, List, [], leng
 use Rattle.std.specs.Option.{option_map, ok_or}
 use Rattle.std.specs.Str.{bytes_eq}
 use Rattle.refusals.specs.declared.Fault.{Fault}
-use Rattle.refusals.specs.declared.Fault.TheVariants.{LineForm, BoardSize, BadRow, BadWant}
 use Rattle.refusals.specs.declared.Refusal.{Refusal}
+use Rattle.refusals.specs.Refusals.{fault}
 use Rattle.text.specs.Forms.{◌then◌, size_after, content_after, line_form}
 use Rattle.text.specs.Reading.{map_ok}
 use Rattle.text.specs.LevelReading as reading
@@ -48,7 +48,7 @@ side n = nat_le 1 n && nat_le n 16
 
 -- after a head of this size
 abbrev pub after_size : ℕ → ℕ → Result Expect Fault
-after_size w h = cond (side w && side h) (Ok (rows (shape_of w 0 []) (h - 1))) (Err BoardSize)
+after_size w h = cond (side w && side h) (Ok (rows (shape_of w 0 []) (h - 1))) (Err (fault 13))
 
 -- after a row of the board that so many follow
 abbrev pub after_row : ℕ → Shape → Expect
@@ -60,16 +60,16 @@ first_want x = blank_shape (length x) then (λ m. with_want m x)
 
 -- the molecule with a further row
 abbrev pub next_want : Shape → List ℕ → Result Shape Fault
-next_want m x = cond (nat_lt m.height 16) (ok_or (with_want m x) BadWant) (Err LineForm)
+next_want m x = cond (nat_lt m.height 16) (ok_or (with_want m x) (fault 15)) (Err (fault 12))
 
 -- what is expected and the form of the line, judged together
 abbrev pub after_form : Expect → Option Form → Result Expect Fault
 after_form head (Some (size w h)) = after_size w h
-after_form (rows b more) (Some (row x)) = ok_or (option_map (after_row more) (with_row b x)) BadRow
-after_form (first b) (Some (want x)) = ok_or (option_map (wants b) (first_want x)) BadWant
+after_form (rows b more) (Some (row x)) = ok_or (option_map (after_row more) (with_row b x)) (fault 14)
+after_form (first b) (Some (want x)) = ok_or (option_map (wants b) (first_want x)) (fault 15)
 after_form (wants b m) (Some (want x)) = map_ok (wants b) (next_want m x)
 after_form (wants b m) (Some close) = Ok (nothing b m)
-after_form _ _ = Err LineForm
+after_form _ _ = Err (fault 12)
 
 -- the level, where nothing is expected any more
 abbrev pub level_at_end : Expect → Option (Result Atoms Fault)

@@ -1,9 +1,9 @@
 -- The line of a move says that move, and is one line. Assumes nothing.
-use Rattle.std.specs.Prelude.{◌≡◌, ℕ, ◌+◌, ◌<◌, Bool, true, cond, List, [], ◌∷◌, ◌++◌, length, Some, codes, decimal, refl}
+use Rattle.std.specs.Prelude.{◌≡◌, ℕ, ◌+◌, ◌<◌, ◌≤◌, Bool, true, cond, List, [], ◌∷◌, ◌++◌, length, Some, codes, decimal, refl}
 use Rattle.std.proofs.Common.{ap, ◌∙◌, append_assoc, arith, lit≤}
 use Rattle.std.specs.Char.{is_ascii_digit}
 use Rattle.std.specs.List.{prefix_len}
-use Rattle.std.proofs.lemmas.Fmt.{decimal_nonempty, digits_decimal}
+use Rattle.std.proofs.lemmas.Fmt.{decimal_nonempty, digits_decimal, length-decimal-le}
 use Rattle.std.proofs.lemmas.List.{length-append}
 use Rattle.std.proofs.lemmas.Bool.Decides.{nat_tests}
 use Rattle.grid.specs.declared.Direction.{Direction}
@@ -17,6 +17,7 @@ use Rattle.text.proofs.Whole.{Whole, whole_append, whole_digits}
 use Rattle.text.specs.Forms.{◌then◌, number_in, inside, closing, Arguments}
 use Rattle.text.proofs.FormWords.{number_reads}
 use Rattle.text.proofs.FormLaws.{forms_hold}
+use Rattle.ways.specs.Notations.{longest_line}
 use Rattle.atoms.specs.declared.notation.AtomMove.{AtomMove}
 use Rattle.atoms.specs.WrittenMoves.{move_of, short_move, direction_in, move_in, move_text}
 
@@ -54,6 +55,12 @@ word_line Up = refl
 word_line Down = refl
 word_line Left = refl
 word_line Right = refl
+
+word_short : (d : Direction) → length (word_of d) ≤ 5
+word_short Up = lit≤ tt
+word_short Down = lit≤ tt
+word_short Left = lit≤ tt
+word_short Right = lit≤ tt
 
 word_back : (d : Direction) → direction_in (32 ∷ word_of d) ≡ Some d
 word_back Up = refl
@@ -95,3 +102,10 @@ module _ (m : AtomMove) (high : m.from.row < 100) (wide : m.from.column < 100) w
   one_line =
       whole_append in_line (codes "(move") (said m ++ closing) refl
       (whole_append in_line (said m) closing (whole_said in_line digit_in_line m high wide refl (word_line m.direction)) refl)
+
+  pub short_line : length (move_text m) ≤ longest_line
+  short_line =
+      let row : length (decimal m.from.row) ≤ 2 = length-decimal-le 2 m.from.row (omega arith) (omega arith) (omega arith) in
+      let column : length (decimal m.from.column) ≤ 2 = length-decimal-le 2 m.from.column (omega arith) (omega arith) (omega arith) in
+      let word = word_short m.direction in
+      simp length-append (omega arith)

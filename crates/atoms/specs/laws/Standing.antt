@@ -101,11 +101,11 @@ module _ (l : Atoms) (p : Position) (stands : Standing l p) (a : ℕ) (there : a
   cell = get_or p.cells a 0
 
   -- where atom a stands
-  abbrev coordinates : Coordinates
+  abbrev pub coordinates : Coordinates
   coordinates = record { row = row l.board.width cell; column = column l.board.width cell }
 
   -- it is on the board
-  coordinates_there : coordinates_of l.board.width l.board.height cell ≡ Some coordinates
+  pub coordinates_there : coordinates_of l.board.width l.board.height cell ≡ Some coordinates
   coordinates_there = cond-true _ _ _ (lt-ltb cell (l.board.width * l.board.height) (stands.inside a there))
 
   cell_there : cell_at l.board.width l.board.height coordinates ≡ Some cell
@@ -127,11 +127,3 @@ module _ (l : Atoms) (p : Position) (stands : Standing l p) (a : ℕ) (there : a
       let below : b < count l = omega arith in
       let one = stands.apart a b there below (sym (sym (same b below) ∙ e)) in
       omega arith)
-
--- the atom of an open move stands on a row and a column of the board
-pub open_placed : (l : Atoms) → Valid l → (p q : Position) (m : ℕ) → Reached (game l) p → destination l p m ≡ Some q → (at : Coordinates) × (coordinates_of l.board.width l.board.height (get_or p.cells (m / 4) 0) ≡ Some at)
-open_placed l v p q m reached leads =
-    let stands = reached_stands l v p reached in
-    let there = (destination_open l p m q leads).there in
-    let wide = v.board.wide in
-    (coordinates l p stands (m / 4) there wide.0, coordinates_there l p stands (m / 4) there wide.0)

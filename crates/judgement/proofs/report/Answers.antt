@@ -1,15 +1,10 @@
-use Rattle.std.proofs.Common.{◌≡◌, ◌++◌, Err, codes, decimal, sym, ap, ◌∙◌, append_assoc}
-use Rattle.refusals.specs.declared.Refusal.{Refusal}
-use Rattle.refusals.specs.Refusals.{number_of, refusal_text}
+use Rattle.std.proofs.Common.{rules, ap, arith}
+use Rattle.std.specs.Prelude.{is_some}
 use Rattle.judgement.specs.Judgement.{report_text}
+use Rattle.judgement.proofs.Lengths.{InBits, short_report, written_if_short}
 use Rattle.judgement.proofs.report.Goals as goal
 
--- a refusal and a line end are its report
-refused : (r : Refusal) → refusal_text r ++ codes "\n" ≡ report_text (Err r)
-refused r =
-    ap (λ text. codes "(fault " ++ text)
-    (append_assoc (decimal (number_of r.fault)) _ _
-    ∙ ap (λ text. decimal (number_of r.fault) ++ (codes " " ++ text)) (append_assoc (decimal r.line) _ _))
-
-pub returns-in-Err : goal.returns-in-Err
-returns-in-Err c = rw (ap report_text c.in-Err.is ∙ sym (refused c.in-Err.refusal)) c.format-in-Err.ensures.ok
+pub unwrap-length-requires : goal.unwrap-length-requires
+unwrap-length-requires c =
+    let bits : InBits c.args.judgement = search rules in
+    ap is_some (written_if_short c.write_text.result (report_text c.args.judgement) c.args.buffer.now c.write_text.ensures.answers (let short = short_report c.args.judgement bits in omega arith))

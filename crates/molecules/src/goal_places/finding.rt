@@ -1,7 +1,8 @@
-ghost use Rattle.std.specs.Prelude.{◌≡◌, ◌+◌, ◌<◌, [], ◌∷◌, ◌++◌};
+ghost use Rattle.std.specs.Prelude.{◌≡◌, ◌+◌, ◌<◌, true, [], ◌∷◌, ◌++◌};
 ghost use Rattle.pictures.specs.Pictures.{shape};
 ghost use Rattle.molecules.specs.Molecules.{molecule_shape};
-ghost use Rattle.molecules.specs.GoalPlaces.{list_of, goal_places, ListsExactly};
+ghost use Rattle.molecules.specs.Atoms.{is_edged};
+ghost use Rattle.molecules.specs.GoalPlaces.{list_of, goal_places, ListsExactly, ListsOnBoard, ListsEverywhere};
 
 use super::GoalPlaces;
 use crate::molecule::Molecule;
@@ -9,10 +10,14 @@ use crate::overlay::Overlay;
 use pictures::Picture;
 
 impl GoalPlaces {
-    /// The goal places of a molecule on a board.
+    /// The goal places of a molecule on a board. With an atom on each edge it may lie nowhere else, not even with its
+    /// first cell above the board or beside it.
     pub fn find(board: &Picture, molecule: &Molecule) -> GoalPlaces
         ensures finds { list_of result ≡ goal_places (shape board.now) (molecule_shape molecule.now) }
         ensures exactly { ListsExactly (shape board.now) (molecule_shape molecule.now) }
+        ensures on_board { ListsOnBoard (shape board.now) (molecule_shape molecule.now) (list_of result) }
+        ensures everywhere { is_edged (molecule_shape molecule.now) ≡ true
+            → ListsEverywhere (shape board.now) (molecule_shape molecule.now) (list_of result) }
     {
         let mut goal_places = GoalPlaces {
             cells: [0; Picture::MOST_CELLS],

@@ -2,9 +2,9 @@
 ghost use Rattle.std.specs.Prelude.{◌≡◌, ◌↔◌, IsTrue, IfOk, length, OnErr};
 ghost use Rattle.search_theory.specs.declared.Verdict.TheVariants.{Running};
 ghost use Rattle.search.specs.Contents.{search_of, LiesIn};
-ghost use Rattle.search.specs.Calls.{AlwaysAdvances, AdvancesFor, RecitesFor};
-ghost use Rattle.search_theory.specs.Calls.{new_search, Opens, advance_refusal, Reports, IsSolved, recite_refusal, refusal_in};
-ghost use Rattle.search_theory.specs.Promise.{Promise};
+ghost use Rattle.search.specs.Calls.{IsUncalled, AlwaysAdvances, AdvancesFor, RecitesFor};
+ghost use Rattle.search_theory.specs.Calls.{new_search, opening, advance, recital, Opens, advance_refusal, Reports, IsSolved, recite_refusal, refusal_in};
+ghost use Rattle.search_theory.specs.Promise.{Promise, StandsAfter};
 
 use super::Search;
 use crate::links::Links;
@@ -32,6 +32,7 @@ impl<'a, P: Copy> Search<'a, P> {
     pub fn new(table: &'a mut [P], numbers: &'a mut [u32]) -> Self
         ensures empty { search_of result ≡ new_search (length table.old) (length numbers.old) }
         ensures lent { LiesIn result table.old numbers.old }
+        ensures uncalled { IsUncalled result }
     {
         let places = table.len();
         let listed = numbers.len();
@@ -58,7 +59,9 @@ impl<'a, P: Copy> Search<'a, P> {
     pub fn open<Z: Puzzle<Position = P>>(&mut self, puzzle: &Z) -> Result<(), Fault>
         ensures opens { Opens (Z.Puzzle.meaning puzzle.now) (search_of self.old) result (search_of self.new) }
         ensures same { OnErr result (self.new ≡ self.old) }
-        ensures promise { Promise (Z.Puzzle.meaning puzzle.now) }
+        ensures promise { Promise (Z.Puzzle.meaning puzzle.now) Z.Puzzle.MOVES }
+        ensures stands { StandsAfter (Z.Puzzle.meaning puzzle.now) Z.Puzzle.MOVES
+            (search_of self.old) (opening result) (search_of self.new) }
     {
         self.begin(puzzle)
     }
@@ -92,6 +95,22 @@ impl<'a, P: Copy> Search<'a, P> {
     /// Refused where the search has not been opened, or the budget is 0. Handed another puzzle than the opened one, it
     /// ends safely, and its answer is free.
     pub fn advance<Z: Puzzle<Position = P>>(
+        &mut self,
+        puzzle: &Z,
+        budget: u32,
+    ) -> Result<Advance, Fault>
+        ensures advances { AdvancesFor (Z.Puzzle.meaning puzzle.now) budget self.old result self.new }
+        ensures always { AlwaysAdvances budget self.old result self.new }
+        ensures stands { StandsAfter (Z.Puzzle.meaning puzzle.now) Z.Puzzle.MOVES
+            (search_of self.old) (advance budget result) (search_of self.new) }
+        ensures refused { refusal_in result ≡ advance_refusal (search_of self.old) budget }
+        ensures same { OnErr result (self.new ≡ self.old) }
+    {
+        self.take_steps(puzzle, budget)
+    }
+
+    // The call `advance` without its promise.
+    fn take_steps<Z: Puzzle<Position = P>>(
         &mut self,
         puzzle: &Z,
         budget: u32,
@@ -139,16 +158,30 @@ impl<'a, P: Copy> Search<'a, P> {
         })
     }
 
-    /// Writes the moves of a shortest way to the front of a list, and answers how many they are.
+    /// Writes the moves of a shortest way to the front of a list, and answers how many they are. The search stays as it
+    /// was.
     ///
     /// Refused where the search has not been opened, where it is not solved, or where the list is too short. Handed
     /// another puzzle than the opened one, it ends safely, and its answer is free. The puzzle is asked nothing: it is what
     /// the promise speaks of.
     pub fn solution<Z: Puzzle<Position = P>>(
-        &self,
+        &mut self,
         puzzle: &Z,
         moves: &mut [u32],
     ) -> Result<usize, Fault>
+        ensures recites { RecitesFor (Z.Puzzle.meaning puzzle.now) self.old moves.old result moves.new }
+        ensures kept { self.new ≡ self.old }
+        ensures solved { IfOk result (IsSolved (search_of self.old)) }
+        ensures refused { refusal_in result ≡ recite_refusal (search_of self.old) (length moves.old) }
+        ensures same { OnErr result (moves.new ≡ moves.old) }
+        ensures stands { StandsAfter (Z.Puzzle.meaning puzzle.now) Z.Puzzle.MOVES
+            (search_of self.old) (recital moves.old result moves.new) (search_of self.new) }
+    {
+        self.recite(puzzle, moves)
+    }
+
+    // The call `solution` without its promise.
+    fn recite<Z: Puzzle<Position = P>>(&self, puzzle: &Z, moves: &mut [u32]) -> Result<usize, Fault>
         ensures recites { RecitesFor (Z.Puzzle.meaning puzzle.now) self.now moves.old result moves.new }
         ensures solved { IfOk result (IsSolved (search_of self.now)) }
         ensures refused { refusal_in result ≡ recite_refusal (search_of self.now) (length moves.old) }

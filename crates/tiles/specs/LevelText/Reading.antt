@@ -3,8 +3,8 @@ use Rattle.std.specs.Prelude.{ℕ, zero, suc, ◌-◌, ◌*◌, Bool, true, cond
 use Rattle.std.specs.Option.{option_map, ok_or}
 use Rattle.std.specs.Str.{bytes_eq}
 use Rattle.refusals.specs.declared.Fault.{Fault}
-use Rattle.refusals.specs.declared.Fault.TheVariants.{LineForm, BoardSize, BadRow, TileNumbers}
 use Rattle.refusals.specs.declared.Refusal.{Refusal}
+use Rattle.refusals.specs.Refusals.{fault}
 use Rattle.text.specs.Forms.{◌then◌, number_in, size_after, arguments_after, line_form}
 use Rattle.text.specs.LevelReading as reading
 use Rattle.tiles.specs.Board.{position_of}
@@ -43,7 +43,7 @@ numbers_in limit (suc k) l =
 
 -- after a head of this size
 abbrev pub after_size : ℕ → ℕ → Result Expect Fault
-after_size w h = cond (side w && side h) (Ok (rows w h h [])) (Err BoardSize)
+after_size w h = cond (side w && side h) (Ok (rows w h h [])) (Err (fault 13))
 
 -- after a row that was due with so many rows, and these tiles with it
 abbrev pub after_tiles : ℕ → ℕ → ℕ → List ℕ → Expect
@@ -51,14 +51,14 @@ after_tiles w h due ts = cond (due == 1) (last w h ts) (rows w h (due - 1) ts)
 
 -- after the row that these bytes spell
 abbrev pub after_row : ℕ → ℕ → ℕ → List ℕ → List ℕ → Result Expect Fault
-after_row w h due ts x = ok_or (option_map (λ r. after_tiles w h due (ts ++ r)) (numbers_in (w * h) w x)) BadRow
+after_row w h due ts x = ok_or (option_map (λ r. after_tiles w h due (ts ++ r)) (numbers_in (w * h) w x)) (fault 14)
 
 -- what is expected and the form of the line, judged together
 abbrev pub after_form : Expect → Option Form → Result Expect Fault
 after_form head (Some (size w h)) = after_size w h
 after_form (rows w h due ts) (Some (row x)) = after_row w h due ts x
 after_form (last w h ts) (Some close) = Ok (nothing w h ts)
-after_form _ _ = Err LineForm
+after_form _ _ = Err (fault 12)
 
 -- each number below n comes once
 abbrev pub each_once : ℕ → List ℕ → Bool
@@ -70,7 +70,7 @@ level w h ts = tiles_of w h (position_of ts)
 
 -- the level, where nothing is expected any more
 abbrev pub level_at_end : Expect → Option (Result Tiles Fault)
-level_at_end (nothing w h ts) = Some (cond (each_once (w * h) ts) (Ok (level w h ts)) (Err TileNumbers))
+level_at_end (nothing w h ts) = Some (cond (each_once (w * h) ts) (Ok (level w h ts)) (Err (fault 18)))
 level_at_end _ = None
 
 abbrev pub grammar : reading.Grammar Expect Tiles

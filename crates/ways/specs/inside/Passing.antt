@@ -1,8 +1,7 @@
 -- The judge in one pass over the lines: the form goes on being read while the moves are followed. Assumes nothing.
 use Rattle.std.specs.Prelude.{◌≡◌, ℕ, ◌+◌, ◌-◌, cond, Some, None, Ok, Err, IfOk, List, [], length, Option, Result, ◌==◌}
-use Rattle.refusals.specs.declared.Fault.TheVariants.{WayForm}
 use Rattle.refusals.specs.declared.Refusal.{Refusal}
-use Rattle.refusals.specs.Refusals.{refusal}
+use Rattle.refusals.specs.Refusals.{refusal, refused}
 use Rattle.puzzle.specs.Game.{Game}
 use Rattle.text.specs.Lines.{Reading}
 use Rattle.text.specs.Reading.{map_ok}
@@ -45,15 +44,15 @@ module _ {P W : Type 0} (g : Game P) (k : Spelling P W) where
   pass_after progress.Head p i l =
       elim (count_of way_keyword l) [
         | Some n ↦ Ok (pass (progress.Moves (moves n None)) p)
-        | None ↦ Err (refusal WayForm i)
+        | None ↦ Err (refused 41 i)
       ]
   pass_after (progress.Moves m) p i l =
       cond (is_closing l) (Ok (pass (progress.Closed m) p))
       (elim (k.reading l) [
         | Some w ↦ Ok (pass_with_move m.announced m.refusal p i w)
-        | None ↦ Err (refusal WayForm i)
+        | None ↦ Err (refused 41 i)
       ])
-  pass_after (progress.Closed m) p i l = Err (refusal WayForm i)
+  pass_after (progress.Closed m) p i l = Err (refused 41 i)
 
   abbrev pub next_pass : Pass P → ℕ → List ℕ → Result (Pass P) Refusal
   next_pass s = pass_after s.progress s.position
@@ -66,15 +65,15 @@ module _ {P W : Type 0} (g : Game P) (k : Spelling P W) where
   -- what is said of a way in form, whose closing bracket has this line; the head has one too, and all others are moves
   abbrev pub moves_conclusion : Moves → P → ℕ → Result ℕ Refusal
   moves_conclusion m p line =
-      cond (m.announced + 2 == line) (map_ok (λ _. m.announced) (end_from m.refusal p line [])) (Err (refusal WayForm 1))
+      cond (m.announced + 2 == line) (map_ok (λ _. m.announced) (end_from m.refusal p line [])) (Err (refused 41 1))
 
   -- the end of the text, where line i would come next and these bytes are left
   abbrev pub conclusion : Pass P → ℕ → List ℕ → Result ℕ Refusal
   conclusion s i left =
       elim s.progress [
-        | progress.Head ↦ Err (refusal WayForm i)
-        | progress.Moves m ↦ Err (refusal WayForm i)
-        | progress.Closed m ↦ cond (length left == 0) (moves_conclusion m s.position (i - 1)) (Err (refusal WayForm i))
+        | progress.Head ↦ Err (refused 41 i)
+        | progress.Moves m ↦ Err (refused 41 i)
+        | progress.Closed m ↦ cond (length left == 0) (moves_conclusion m s.position (i - 1)) (Err (refused 41 i))
       ]
 
   abbrev pub pass_conclusion : Result (Reading (Pass P)) Refusal → Result ℕ Refusal

@@ -1,8 +1,8 @@
 -- What a walk over a level does. Assumes nothing.
-use Rattle.std.specs.Prelude.{◌≡◌, ℕ, Bool, cond, List, [], Ok, Err, Result, IsSome}
+use Rattle.std.specs.Prelude.{◌≡◌, ℕ, Bool, cond, List, [], Ok, Err, Result}
 use Rattle.refusals.specs.declared.Fault.{Fault}
-use Rattle.refusals.specs.declared.Fault.TheVariants.{AfterFinish}
 use Rattle.refusals.specs.declared.Refusal.{Refusal}
+use Rattle.refusals.specs.Refusals.{fault}
 use Rattle.puzzle.specs.Game.{Game, Played}
 use Rattle.text.specs.Reading.{map_ok}
 use Rattle.text.specs.Lines.{join_lines}
@@ -15,7 +15,7 @@ use Rattle.ways.specs.Writing.{destination, move_lines}
 
 -- why a move is refused, by what following it answers and whether the position before it is finished
 abbrev pub move_judgement : Result (Unit {0}) IllegalMove → Bool → Result (Unit {0}) Fault
-move_judgement (Ok _) finished = cond finished (Err AfterFinish) (Ok tt)
+move_judgement (Ok _) finished = cond finished (Err (fault 44)) (Ok tt)
 move_judgement (Err e) finished = Err (fault_of e)
 
 -- what is answered of a move, and where the walk is after it; a refusal leaves it where it was
@@ -35,10 +35,6 @@ module _ {P W : Type 0} (g : Game P) (k : Spelling P W) where
   -- what is answered at the end of the moves, on a line
   abbrev pub end_judgement : P → ℕ → Result (Unit {0}) Refusal
   end_judgement p line = map_ok (λ _. tt) (last_position g k p line [])
-
-  -- the line of a move was written, if the move is open
-  abbrev pub WritesOpen : P → ℕ → Pen → Pen → Type 0
-  WritesOpen p m old new = IsSome (destination g p m) → Writes (k.line p m) old new
 
   -- the line of each move was written
   abbrev pub WritesMoves : List ℕ → Pen → Pen → Type 0

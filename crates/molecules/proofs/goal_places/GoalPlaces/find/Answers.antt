@@ -1,9 +1,10 @@
-use Rattle.std.proofs.Common.{◌≡◌, [], ◌∷◌, ◌++◌, sym, ap, ◌∙◌, arith}
+use Rattle.std.proofs.Common.{◌≡◌, [], ◌∷◌, ◌++◌, sym, ap, ◌∙◌, rules, arith}
 use Rattle.pictures.specs.declared.picture.Picture.{Picture}
 use Rattle.pictures.specs.Pictures.{shape}
 use Rattle.molecules.specs.Molecules.{molecule_shape}
 use Rattle.molecules.specs.GoalPlaces.{is_goal_place}
 use Rattle.molecules.proofs.Passing.{passing_one, passing_none, lists_exactly}
+use Rattle.molecules.proofs.Everywhere.{found_on_board, found_everywhere}
 use Rattle.molecules.proofs.goal_places.GoalPlaces.find.Goals as goal
 use Rattle.molecules.proofs.goal_places.GoalPlaces.find.Goals.{then-fits, else-fits}
 
@@ -27,3 +28,9 @@ loop-cell-preserved c =
 
 pub returns-clause-exactly : goal.returns-clause-exactly
 returns-clause-exactly c = lists_exactly (shape c.args.board.now) (molecule_shape c.args.molecule.now)
+
+pub returns-clause-on_board : goal.returns-clause-on_board
+returns-clause-on_board c = found_on_board c.args.board.now (molecule_shape c.args.molecule.now) _ (search rules)
+
+pub returns-clause-everywhere : goal.returns-clause-everywhere
+returns-clause-everywhere c = found_everywhere c.args.board.now (molecule_shape c.args.molecule.now) _ (search rules)

@@ -21,10 +21,10 @@ returns c =
     let p = c.start-cells.result in
     let level : tiles_of g.width g.height p ≡ tiles c.args.self.now.0.now =
     ap (λ (x : Grid). tiles_of x.width x.height p) c.grid-grid.ensures ∙ ap (tiles_of _ _) c.start-cells.ensures in
-    let bracket = leads_more (leads_start (head_text g.width g.height p)) c.put.ensures in
-    let keyword = leads_more (leads_more bracket c.put-2.ensures) c.put-3.ensures in
-    let width = leads_more keyword c.put_decimal.ensures in
-    let height = leads_more (leads_more width c.put-4.ensures) c.put_decimal-2.ensures in
-    let head = leads_more height c.put-5.ensures in
+    let bracket = leads_more (leads_start (head_text g.width g.height p)) c.put.ensures.wrote in
+    let keyword = leads_more (leads_more bracket c.put-2.ensures.wrote) c.put-3.ensures.wrote in
+    let width = leads_more keyword c.put_decimal.ensures.wrote in
+    let height = leads_more (leads_more width c.put-4.ensures.wrote) c.put_decimal-2.ensures.wrote in
+    let head = leads_more height c.put-5.ensures.wrote in
     let rows = leads_as (rows_all _ _ _ _ c.loop-test.false) c.loop.invariant in
-    writes_as (ap level_text level) (head _ (rows _ c.put-6.ensures))
+    writes_as (ap level_text level) (head _ (rows _ c.put-6.ensures.wrote))
