@@ -11,6 +11,9 @@ memory_name = codes "the answer"
 abbrev pub standard_input_name : List ℕ
 standard_input_name = codes "standard input"
 
+abbrev pub standard_output_name : List ℕ
+standard_output_name = codes "standard output"
+
 -- the name of what a path names: `-` stands for standard input
 abbrev pub name_of : List ℕ → List ℕ
 name_of path = cond (bytes_eq path (codes "-")) standard_input_name path

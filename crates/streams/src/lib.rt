@@ -7,7 +7,7 @@
 ghost use Rattle.std.specs.Prelude.{◌≡◌, ℕ, List, Option, None, IfOk, IfErr, OnOk, IfSome, MatchResult};
 ghost use Rattle.std.specs.Process.{exit_status};
 ghost use Rattle.std.specs.Io.KnownBytes.{Appends};
-ghost use Rattle.streams.specs.Failing.{memory_name, standard_input_name, name_of};
+ghost use Rattle.streams.specs.Failing.{memory_name, standard_input_name, standard_output_name, name_of};
 
 use either::{Either, Left, Right};
 use std::alloc::{AllocError, Global};
@@ -138,7 +138,9 @@ pub struct PathSource<'a> {
 
 impl<'a> PathSource<'a> {
     /// The source that a path names.
-    pub fn new(rt: &HostRuntime, path: &'a str) -> PathSource<'a> {
+    pub fn new(rt: &HostRuntime, path: &'a str) -> PathSource<'a>
+        ensures { result.path.now ≡ path.now }
+    {
         PathSource { rt: *rt, path }
     }
 }
@@ -196,7 +198,9 @@ pub fn standard_input<'a>(rt: &HostRuntime) -> Named<'a, Stdin>
 }
 
 /// Standard output.
-pub fn standard_output<'a>(rt: &HostRuntime) -> Named<'a, Stdout> {
+pub fn standard_output<'a>(rt: &HostRuntime) -> Named<'a, Stdout>
+    ensures { result.name.now ≡ standard_output_name }
+{
     Named {
         name: "standard output",
         stream: rt.stdout(),
