@@ -131,6 +131,37 @@ fn answers_atoms(rt: HostRuntime) {
     answered_so(&rt, &mut new_workspace(&rt, rt.alloc()), &ATOMS);
 }
 
+// Books of 32,258, 32,768 and 33,282 bytes: the last is too long, and its level is searched bare. Bare, none of the three
+// is settled, and the last has no way either.
+static BOOKS: [(&str, Answer); 5] = [
+    (
+        "(atomix 16 16\n(row .#####..##.#...#)\n(row #..######..####.)\n(row #.#####.##.####.)\n(row ...#..#....##...)\n(row ##.####......#.#)\n(row ..##......#....#)\n(row #....###A#####..)\n(row ..#....#.##..##.)\n(row .#..#.#.#.#.###.)\n(row ##..####.##...##)\n(row ...####.##......)\n(row ..#.##..####.###)\n(row ..####.###.#....)\n(row B.##.####..#..##)\n(row #.###.##..##..##)\n(row ...#.....###...#)\n(want ..........A)\n(want ...........)\n(want ...........)\n(want ...........)\n(want ...........)\n(want ...........)\n(want ...........)\n(want ...........)\n(want ...........)\n(want ...........)\n(want ...........)\n(want ...........)\n(want ...........)\n(want ...........)\n(want B..........)\n)\n",
+        Answer::Way(30),
+    ),
+    (
+        "(atomix 16 16\n(row ######..###.####)\n(row ..##.#.......##.)\n(row #.##.####.##.##.)\n(row ###.#.....#.#...)\n(row ######.###.#...#)\n(row ##...#..###..#..)\n(row ###..###......##)\n(row ..##.#...####.##)\n(row ###...#.##...###)\n(row ...#....#......#)\n(row ....#.#..##..#..)\n(row ##...###B.#..##.)\n(row .#.......A...#..)\n(row ##..##.####.##.#)\n(row .##.#.#..#.###.#)\n(row .#.###.#.#.#####)\n(want ...............A)\n(want ................)\n(want ................)\n(want ................)\n(want ................)\n(want ................)\n(want ................)\n(want ................)\n(want ................)\n(want ................)\n(want B...............)\n)\n",
+        NONE,
+    ),
+    (
+        "(atomix 16 16\n(row #.#..#..#.#...#.)\n(row #.##..####.#####)\n(row .##..#..####.###)\n(row ##.##..#.##..#..)\n(row ..##..A.#...#..#)\n(row #.....#...##.#..)\n(row ...##.####.####.)\n(row ####..##..#.##..)\n(row .##..###....#.#.)\n(row B.....#####.#.#.)\n(row ##.#..###.....#.)\n(row .#...#..##.##..#)\n(row #..###.#.#.##.#.)\n(row #.##.##..#.#####)\n(row #.....#####.#.#.)\n(row ..#...####....#.)\n(want A...............)\n(want ................)\n(want ................)\n(want ................)\n(want ................)\n(want ................)\n(want ................)\n(want ................)\n(want ................)\n(want ................)\n(want ...............B)\n)\n",
+        FULL,
+    ),
+    // More positions than the table has places can be reached, but few are needed with a book.
+    (
+        "(atomix 9 4\n(row #.##.##..)\n(row #..##.O..)\n(row #H....C.#)\n(row ##.#...BO)\n(want .BH)\n(want OOC)\n)\n",
+        Answer::Way(8),
+    ),
+    (
+        "(atomix 4 7\n(row ...#)\n(row #...)\n(row ###D)\n(row .#.C)\n(row ..CC)\n(row BH..)\n(row #..#)\n(want .C..)\n(want BCCD)\n(want ..H.)\n)\n",
+        Answer::Way(9),
+    ),
+];
+
+#[test]
+fn answers_with_books(rt: HostRuntime) {
+    answered_so(&rt, &mut new_workspace(&rt, rt.alloc()), &BOOKS);
+}
+
 static FAULTS: [(&str, Answer); 11] = [
     // The first line has the keyword of no kind.
     ("(park\n)\n", Answer::Text("(fault 12 1)\n")),
@@ -164,6 +195,7 @@ fn answers_faults(rt: HostRuntime) {
 fn answers_all_kinds_in_turn(rt: HostRuntime) {
     let mut workspace = new_workspace(&rt, rt.alloc());
     answered_so(&rt, &mut workspace, &ATOMS);
+    answered_so(&rt, &mut workspace, &BOOKS);
     answered_so(&rt, &mut workspace, &FAULTS);
     answered_so(&rt, &mut workspace, &TILES);
 }

@@ -6,7 +6,7 @@ use Rattle.search_theory.specs.declared.Verdict.{Verdict}
 use Rattle.search_theory.specs.declared.Verdict.TheVariants.{Running, Solved, Unsolvable, TableFull}
 use Rattle.search_theory.specs.Steps.{State, Steps, first_state}
 use Rattle.search_theory.specs.Promise.{Says}
-use Rattle.levels.specs.Levels.{Rules, rules, read_level}
+use Rattle.levels.specs.Levels.{Rules, searched, read_level}
 use Rattle.judgement.specs.Judgement.{judgement_by}
 
 -- how many places the search's table has
@@ -45,6 +45,11 @@ pub record Settles (r : Rules) (answer : List ℕ) : Type 0 where
   pub tells : Tells r last.verdict answer
   pub means : Says r.meaning places last.verdict
 
--- The answer to a text: for the level that it spells, or the refusal `(fault NUMBER LINE)`.
+-- The answer to a text: for the level that it spells, by the rules of the puzzle that is searched for it, or the refusal
+-- `(fault NUMBER LINE)`.
 abbrev pub Answers : List ℕ → List ℕ → Type 0
-Answers text answer = elim (read_level text) [ Ok l ↦ Settles (rules l) answer | Err e ↦ answer ≡ refusal_line e ]
+Answers text answer =
+    elim (read_level text) [
+      | Ok l ↦ searched l (λ r. Settles r answer)
+      | Err e ↦ answer ≡ refusal_line e
+    ]

@@ -5,7 +5,7 @@ ghost use Rattle.answers.specs.inside.Replies.{reply_text};
 
 use crate::reply::Reply;
 use crate::solving::solve;
-use levels::{Table, TableVisitor, Tables, read_level};
+use levels::{SearchMemory, Table, TableVisitor, read_level};
 use search_theory::Verdict;
 use std::alloc::{AllocError, Global};
 use text::pen::write_text;
@@ -20,7 +20,7 @@ const NUMBERS_PER_PLACE: usize = 8;
 /// Room for a way of as many moves as the table has places, each line with its end, and for its head and closing line.
 const TEXT_ROOM: usize = (PLACES + 1) * (LONGEST_LINE + 1);
 
-/// What an answer needs beside the tables: the search's numbers, the moves that it finds, and the text.
+/// What an answer needs beside what is the level's: the search's numbers, the moves that it finds, and the text.
 #[derive(Drop)]
 struct Memory {
     numbers: Vec<u32>,
@@ -34,7 +34,7 @@ struct Memory {
 /// All the memory that an answer needs. It is good for any number of answers, one after the other.
 #[derive(Drop)]
 pub struct Workspace {
-    tables: Tables<PLACES>,
+    search: SearchMemory<PLACES>,
     memory: Memory,
 }
 
@@ -81,20 +81,21 @@ impl Workspace {
             moves: vec![in heap; 0u32; PLACES]?,
             text: vec![in heap; 0u8; TEXT_ROOM]?,
         };
-        let tables = Tables::new(heap)?;
-        Ok(Workspace { tables, memory })
+        let search = SearchMemory::new(heap)?;
+        Ok(Workspace { search, memory })
     }
 
     /// The answer to a level's text.
     ///
     /// It is a shortest way, `(none)` if there is no way, `(full)` if the search finds its table of 2,048 places too
-    /// small, so that more positions can be reached, or `(fault NUMBER LINE)` if the text is refused. Which of several
-    /// shortest ways is free; all else is fixed by the rules of the search.
+    /// small, so that more positions can be reached, or `(fault NUMBER LINE)` if the text is refused. An atom level is
+    /// searched with its book if that has at most 32,768 bytes. Which of several shortest ways is free; all else is
+    /// fixed by the rules of the search.
     pub fn answer(&mut self, text: &[u8]) -> &[u8]
         ensures { Answers text.now result.now }
     {
         match read_level(text) {
-            Ok(level) => level.accept_with_table(&mut self.tables, &mut self.memory),
+            Ok(level) => level.accept_for_search(&mut self.search, &mut self.memory),
             Err(refusal) => self.memory.reply(Reply::Refused(refusal)),
         }
     }

@@ -24,7 +24,7 @@ fn reports_accepted_ways(rt: HostRuntime) {
 }
 
 // Every reason, and the longest line.
-static REFUSED: [(Fault, usize, &str); 21] = [
+static REFUSED: [(Fault, usize, &str); 25] = [
     (Fault::NotText, 0, "(fault 11 0)\n"),
     (Fault::LineForm, 1, "(fault 12 1)\n"),
     (Fault::BoardSize, 1, "(fault 13 1)\n"),
@@ -34,6 +34,10 @@ static REFUSED: [(Fault, usize, &str); 21] = [
     (Fault::AtomLabels, 35, "(fault 17 35)\n"),
     (Fault::TileNumbers, 6, "(fault 18 6)\n"),
     (Fault::NoRoom, 0, "(fault 21 0)\n"),
+    (Fault::BookLength, 0, "(fault 22 0)\n"),
+    (Fault::BookGoal, 0, "(fault 23 0)\n"),
+    (Fault::BookMeeting, 0, "(fault 24 0)\n"),
+    (Fault::BookMove, 0, "(fault 25 0)\n"),
     (Fault::TableSize, 0, "(fault 31 0)\n"),
     (Fault::ListSize, 0, "(fault 32 0)\n"),
     (Fault::AlreadyOpen, 0, "(fault 33 0)\n"),

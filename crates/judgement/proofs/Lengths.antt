@@ -6,7 +6,7 @@ use Rattle.std.proofs.lemmas.Fmt.{length-decimal-le}
 use Rattle.std.proofs.lemmas.List.{length-append}
 use Rattle.refusals.specs.declared.Fault.{Fault}
 use Rattle.refusals.specs.declared.Refusal.{Refusal}
-use Rattle.refusals.specs.declared.Fault.TheVariants.{NotText, LineForm, BoardSize, BadRow, BadWant, BareEdge, AtomLabels, TileNumbers, NoRoom, TableSize, ListSize, AlreadyOpen, NotOpen, NoBudget, NotSolved, ShortList, WayForm, NothingThere, ClosedMove, AfterFinish, NotFinished}
+use Rattle.refusals.specs.declared.Fault.TheVariants.{NotText, LineForm, BoardSize, BadRow, BadWant, BareEdge, AtomLabels, TileNumbers, NoRoom, BookLength, BookGoal, BookMeeting, BookMove, TableSize, ListSize, AlreadyOpen, NotOpen, NoBudget, NotSolved, ShortList, WayForm, NothingThere, ClosedMove, AfterFinish, NotFinished}
 use Rattle.refusals.specs.Refusals.{number_of, refusal_line}
 use Rattle.text.specs.Pens.{length_if_fits}
 use Rattle.judgement.specs.Judgement.{report_text}
@@ -21,6 +21,10 @@ two_digits BareEdge = omega arith
 two_digits AtomLabels = omega arith
 two_digits TileNumbers = omega arith
 two_digits NoRoom = omega arith
+two_digits BookLength = omega arith
+two_digits BookGoal = omega arith
+two_digits BookMeeting = omega arith
+two_digits BookMove = omega arith
 two_digits TableSize = omega arith
 two_digits ListSize = omega arith
 two_digits AlreadyOpen = omega arith

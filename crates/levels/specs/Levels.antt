@@ -1,6 +1,6 @@
 -- Levels of every kind: which kind a text is of, how a level is written, the puzzle that it is and how its moves are
 -- written. Assumes nothing.
-use Rattle.std.specs.Prelude.{ℕ, cond, List, Some, None, Err, codes, Option, Result}
+use Rattle.std.specs.Prelude.{ℕ, ◌<◌, ◌≤◌, cond, List, Some, None, Err, codes, Option, Result}
 use Rattle.std.specs.Str.{bytes_eq}
 use Rattle.refusals.specs.declared.Refusal.{Refusal}
 use Rattle.refusals.specs.Refusals.{refused}
@@ -15,11 +15,15 @@ use Rattle.tiles.specs.Meaning as tile_meaning
 use Rattle.tiles.specs.WrittenMoves as tile_moves
 use Rattle.tiles.specs.LevelText.Writing as tile_text
 use Rattle.tiles.specs.LevelText.Reading as tile_reading
+use Rattle.atoms.specs.declared.position.Position.{Position}
 use Rattle.atoms.specs.Level as atom
 use Rattle.atoms.specs.Meaning as atom_meaning
 use Rattle.atoms.specs.WrittenMoves as atom_moves
 use Rattle.atoms.specs.LevelText.Writing as atom_text
 use Rattle.atoms.specs.LevelText.Reading as atom_reading
+use Rattle.pattern_databases.specs.Layout as book_layout
+use Rattle.pattern_databases.specs.Books as book
+use Rattle.pattern_databases.specs.Meaning as booked
 use Rattle.levels.specs.declared.level.Level as code
 use Rattle.levels.specs.declared.level.Level.TheVariants as coded
 
@@ -44,6 +48,19 @@ pub record Kind : Type 1 where
   -- what makes it a level
   pub Valid : Type 0
   pub rules : Rules
+  -- something is so by the rules of the puzzle that is searched for it
+  pub searched : (Rules → Type 0) → Type 0
+
+-- how many bytes the book of a level may have that is searched with it
+abbrev pub book_bytes : ℕ
+book_bytes = 32768
+
+-- something is so by what an atom level means to its search: with the bound of its book, filled, if that is no longer,
+-- and else bare
+pub data Searched (l : atom.Atoms) (Is : Meaning Position → Type 0) : Type 0 where
+  with_book : (bytes : List ℕ) → book_layout.book_length l ≤ book_bytes → book.Filled l bytes
+      → Is (booked.meaning l bytes) → Searched l Is
+  bare : book_bytes < book_layout.book_length l → Is (atom_meaning.meaning l) → Searched l Is
 
 -- the one place where kinds are told apart
 abbrev pub kind : Level → Kind
@@ -51,11 +68,13 @@ kind (tiles l) = record {
   text = tile_text.level_text l;
   Valid = tile.Valid l;
   rules = rules_of (tile_meaning.meaning l) (tile_moves.spelling l);
+  searched = λ Is. Is (rules_of (tile_meaning.meaning l) (tile_moves.spelling l));
 }
 kind (atoms l) = record {
   text = atom_text.level_text l;
   Valid = atom.Valid l;
   rules = rules_of (atom_meaning.meaning l) (atom_moves.spelling l);
+  searched = λ Is. Searched l (λ m. Is (rules_of m (atom_moves.spelling l)));
 }
 
 abbrev pub level_text : Level → List ℕ
@@ -66,6 +85,9 @@ Valid l = (kind l).Valid
 
 abbrev pub rules : Level → Rules
 rules l = (kind l).rules
+
+abbrev pub searched : Level → (Rules → Type 0) → Type 0
+searched l = (kind l).searched
 
 -- why a text is no level that begins with the keyword of no kind
 abbrev pub kindless : List ℕ → Refusal

@@ -1,10 +1,11 @@
 ghost use Rattle.std.specs.Prelude.{◌≡◌};
 ghost use Rattle.text.specs.Reading.{map_ok};
-ghost use Rattle.levels.specs.Levels.{level_value, read_level, rules, ReadsExactly};
+ghost use Rattle.levels.specs.Levels.{level_value, read_level, rules, searched, ReadsExactly};
 
-use crate::tables::Tables;
+use crate::memory::SearchMemory;
 use crate::visitor::{LevelVisitor, TableVisitor};
 use atoms::AtomLevel;
+use pattern_databases::{Book, BookBound, BookedLevel};
 use refusals::{Fault, Refusal};
 use text::{forms, is_text};
 use tiles::TileLevel;
@@ -28,17 +29,24 @@ impl Level {
         }
     }
 
-    /// Lets the visitor do its work with the level and the table for its kind.
-    pub fn accept_with_table<const PLACES: usize, V: TableVisitor<PLACES>>(
+    /// Lets the visitor do its work with the puzzle that is searched for the level, and the table for its kind: an atom
+    /// level is searched with its book, filled, if that has at most 32,768 bytes, and any other level as it is.
+    pub fn accept_for_search<const PLACES: usize, V: TableVisitor<PLACES>>(
         &self,
-        tables: &mut Tables<PLACES>,
+        memory: &mut SearchMemory<PLACES>,
         visitor: V,
     ) -> V::Output
-        ensures { V.Gives visitor (rules (level_value self.now)) result }
+        ensures { searched (level_value self.now) (λ rules. V.Gives visitor rules result) }
     {
         match self {
-            Level::Tiles(level) => visitor.visit(level, &mut tables.tiles),
-            Level::Atoms(level) => visitor.visit(level, &mut tables.atoms),
+            Level::Tiles(level) => visitor.visit(level, &mut memory.tiles),
+            Level::Atoms(level) => {
+                let Some(bytes) = memory.book.get_mut(..Book::length(level)) else {
+                    return visitor.visit(level, &mut memory.atoms);
+                };
+                let book = Book::fill(level, bytes, &mut memory.scratch).unwrap();
+                visitor.visit(&BookedLevel::new(BookBound::new(book)), &mut memory.atoms)
+            }
         }
     }
 }

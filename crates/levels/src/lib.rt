@@ -2,9 +2,9 @@
 #![tactic(auto)]
 
 mod level;
-mod tables;
+mod memory;
 mod visitor;
 
 pub use level::{Level, read_level};
-pub use tables::{Table, Tables};
+pub use memory::{BOOK_BYTES, SearchMemory, Table};
 pub use visitor::{LevelVisitor, TableVisitor};

@@ -1,6 +1,6 @@
 ghost use Rattle.levels.specs.Levels.{Rules, rules_of};
 
-use crate::tables::Table;
+use crate::memory::Table;
 use ways::Notation;
 
 /// What is done with a level, whatever its kind.

@@ -1,7 +1,7 @@
 -- The number of each refusal, and how a refusal is written. Assumes nothing.
 use Rattle.std.specs.Prelude.{◌≡◌, ℕ, cond, List, [], ◌∷◌, ◌++◌, codes, decimal, ◌==◌}
 use Rattle.refusals.specs.declared.Fault.{Fault}
-use Rattle.refusals.specs.declared.Fault.TheVariants.{NotText, LineForm, BoardSize, BadRow, BadWant, BareEdge, AtomLabels, TileNumbers, NoRoom, TableSize, ListSize, AlreadyOpen, NotOpen, NoBudget, NotSolved, ShortList, WayForm, NothingThere, ClosedMove, AfterFinish, NotFinished}
+use Rattle.refusals.specs.declared.Fault.TheVariants.{NotText, LineForm, BoardSize, BadRow, BadWant, BareEdge, AtomLabels, TileNumbers, NoRoom, BookLength, BookGoal, BookMeeting, BookMove, TableSize, ListSize, AlreadyOpen, NotOpen, NoBudget, NotSolved, ShortList, WayForm, NothingThere, ClosedMove, AfterFinish, NotFinished}
 use Rattle.refusals.specs.declared.Refusal.{Refusal}
 
 -- the one place that gives each reason its number
@@ -15,6 +15,10 @@ number_of BareEdge = 16
 number_of AtomLabels = 17
 number_of TileNumbers = 18
 number_of NoRoom = 21
+number_of BookLength = 22
+number_of BookGoal = 23
+number_of BookMeeting = 24
+number_of BookMove = 25
 number_of TableSize = 31
 number_of ListSize = 32
 number_of AlreadyOpen = 33
@@ -30,8 +34,8 @@ number_of NotFinished = 45
 
 abbrev pub faults : List Fault
 faults =
-    NotText ∷ LineForm ∷ BoardSize ∷ BadRow ∷ BadWant ∷ BareEdge ∷ AtomLabels ∷ TileNumbers ∷ NoRoom ∷ TableSize ∷
-    ListSize ∷ AlreadyOpen ∷ NotOpen ∷ NoBudget ∷ NotSolved ∷ ShortList ∷ WayForm ∷ NothingThere ∷ ClosedMove ∷
+    NotText ∷ LineForm ∷ BoardSize ∷ BadRow ∷ BadWant ∷ BareEdge ∷ AtomLabels ∷ TileNumbers ∷ NoRoom ∷ BookLength ∷ BookGoal ∷
+    BookMeeting ∷ BookMove ∷ TableSize ∷ ListSize ∷ AlreadyOpen ∷ NotOpen ∷ NoBudget ∷ NotSolved ∷ ShortList ∷ WayForm ∷ NothingThere ∷ ClosedMove ∷
     AfterFinish ∷ NotFinished ∷ []
 
 -- the reason of a number, of those that have one

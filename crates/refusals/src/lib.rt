@@ -29,6 +29,14 @@ pub enum Fault {
     TileNumbers = 18,
     /// The text does not fit the buffer, or the way has too many moves to be written.
     NoRoom = 21,
+    /// The bytes are not as many as the book of the level has.
+    BookLength = 22,
+    /// A goal entry of the book is not 0.
+    BookGoal = 23,
+    /// An entry of the book with two atoms on one cell is not 255.
+    BookMeeting = 24,
+    /// A part move lowers an entry of the book by more than one, or leads from 255 to less.
+    BookMove = 25,
     /// The table of a search has no place, or more than 1,048,576.
     TableSize = 31,
     /// The number list of a search has not eight numbers for each place of the table.

@@ -1,6 +1,7 @@
 //! The atoms of a level: their labels, where they stand, and how one slides.
 ghost use Rattle.std.specs.Prelude.{◌≡◌, take};
 ghost use Rattle.pictures.specs.Pictures.{shape};
+ghost use Rattle.molecules.specs.GoalPlaces.{goal_places};
 ghost use Rattle.atoms.specs.Board.{labels_of};
 ghost use Rattle.atoms.specs.Level.{atoms, count};
 ghost use Rattle.atoms.specs.Moves.{SlidesAtom, atom_at};
@@ -25,6 +26,13 @@ impl AtomLevel {
         ensures { result.now ≡ self.now.molecule }
     {
         &self.molecule
+    }
+
+    /// The goal places of the molecule: the cells on which its first cell may lie, in reading order.
+    pub fn goal_places(&self) -> &[u8]
+        ensures { result.now ≡ goal_places (atoms self.now).board (atoms self.now).molecule }
+    {
+        self.goal_places.as_slice()
     }
 
     /// The number of the atom that stands on a row and a column of the board.
@@ -62,14 +70,14 @@ impl AtomLevel {
     }
 
     /// The labels of the atoms, by number.
-    pub(crate) fn labels(&self) -> &[u8]
+    pub fn labels(&self) -> &[u8]
         ensures { result.now ≡ labels_of (shape self.now.board) }
     {
         &self.labels[..self.atoms]
     }
 
     /// The cells on which the atoms stand, by number.
-    pub(crate) fn standing<'a>(&self, position: &'a Position) -> &'a [u8]
+    pub fn standing<'a>(&self, position: &'a Position) -> &'a [u8]
         ensures { result.now ≡ take (count (atoms self.now)) position.now.cells }
     {
         &position.cells[..self.atoms]

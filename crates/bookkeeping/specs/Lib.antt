@@ -1,0 +1,3 @@
+pub mod Answers
+pub mod Streaming
+pub mod inside

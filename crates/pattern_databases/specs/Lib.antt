@@ -1,0 +1,9 @@
+pub mod Floor
+pub mod PartMoves
+pub mod Parts
+pub mod Layout
+pub mod Books
+pub mod Views
+pub mod Meaning
+pub mod inside
+pub mod laws
