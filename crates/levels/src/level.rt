@@ -58,14 +58,16 @@ pub fn read_level(text: &[u8]) -> Result<Level, Refusal>
     ensures reads { map_ok level_value result ≡ read_level text.now }
     ensures exactly { ReadsExactly text.now }
 {
+    // First, so that of bytes that are too many no line is looked for.
+    if !is_text(text) {
+        return Err(Fault::NotText.at(0));
+    }
     let keyword = forms::first_keyword(text).unwrap_or(b"");
     if keyword == tiles::KEYWORD {
         tiles::read_level(text).map(Level::Tiles)
     } else if keyword == atoms::KEYWORD {
         atoms::read_level(text).map(Level::Atoms)
-    } else if is_text(text) {
-        Err(Fault::LineForm.at(1))
     } else {
-        Err(Fault::NotText.at(0))
+        Err(Fault::LineForm.at(1))
     }
 }
