@@ -7,9 +7,11 @@ use Rattle.std.proofs.lemmas.List.Sums.{position_or_len_is}
 use Rattle.std.proofs.lemmas.Bool.{cond-true, lt-ltb, eq-eqb, ne_eqb}
 use Rattle.grid.specs.declared.Coordinates.{Coordinates}
 use Rattle.grid.specs.Grid.{cell_at}
+use Rattle.atoms.specs.declared.level.AtomLevel.{AtomLevel}
 use Rattle.atoms.specs.declared.position.Position.{Position}
-use Rattle.atoms.specs.Level.{Atoms, count}
+use Rattle.atoms.specs.Level.{Atoms, atoms, count}
 use Rattle.atoms.specs.Moves.{atom_on, atom_at}
+use Rattle.atoms.specs.laws.Levels.{level_valid}
 
 module _ (l : Atoms) (p : Position) where
   -- the cells on which the atoms stand
@@ -31,3 +33,7 @@ module _ (l : Atoms) (p : Position) where
       by : (o : Option ℕ) → option_and_then (atom_on l p) o ≡ Some a → a < count l
       by (Some cell) e = omega (arith, (position-Some (λ k. eqb k cell) standing a 0 e).0, length-take (count l) p.cells)
       by None e = cc
+
+-- an atom that is found has a small number
+pub few_atoms : (l : AtomLevel) (p : Position) (at : Coordinates) (a : ℕ) → atom_at (atoms l) p at ≡ Some a → a < 16
+few_atoms l p at a e = omega (arith, (level_valid l).few, atom_at_below (atoms l) p at a e)
