@@ -1,7 +1,6 @@
 -- One move of a walk over a level, and where the walk is after it. Assumes nothing.
 use Rattle.std.proofs.Common.{◌≡◌, ℕ, ◌<◌, Bool, true, false, cond, ltb, Some, None, Ok, Err, Option, Result, sym, refl, ap, ◌∙◌, subst}
 use Rattle.std.specs.Coded.{Coded, Coded-set, coded_bool, ×_prop}
-use Rattle.std.specs.Result.{is_ok}
 use mathlib.Core.Sum.{⊎_set}
 use Rattle.std.proofs.lemmas.Bool.{cond-true, lt-ltb}
 use Rattle.refusals.specs.declared.Fault.{Fault}
@@ -25,11 +24,6 @@ module _ {P : Type 0} (positions : Coded P) where
   pub FollowsTo-prop : (o : Result P IllegalMove) (answer : Result (Unit {0}) IllegalMove) (old new : P) → IsProp (FollowsTo o answer old new)
   FollowsTo-prop (Ok q) answer old new = hlevel (⊎_set, Coded-set positions)
   FollowsTo-prop (Err e) answer old new = hlevel (⊎_set, Coded-set positions)
-
--- of a move that is none, it makes no difference whether the position before it was finished
-pub no_move_judged : (o : Result (Unit {0}) IllegalMove) (a b : Bool) → false ≡ is_ok o → move_judgement o a ≡ move_judgement o b
-no_move_judged (Ok _) a b none = cc
-no_move_judged (Err e) a b none = refl
 
 -- a number that is below the count leads where its move leads
 pub destination_below : {P : Type 0} (g : Game P) (p : P) (m : ℕ) → m < g.count → destination g p m ≡ g.move p m

@@ -62,9 +62,7 @@ impl<'a, L: Notation> Walk<'a, L> {
     {
         let from = self.position;
         let outcome = self.level.follow(&from, written, &mut self.position);
-        // Of a move that is none, the finish before it is not asked.
-        let was_finished = outcome.is_ok() && self.level.is_goal(&from);
-        if let Err(fault) = judge_move(outcome, was_finished) {
+        if let Err(fault) = judge_move(outcome, self.level.is_goal(&from)) {
             self.position = from;
             return Err(fault.at(line));
         }

@@ -1,10 +1,9 @@
-use Rattle.std.proofs.Common.{◌≡◌, sym, ap, ◌∙◌}
+use Rattle.std.proofs.Common.{sym, ap, ◌∙◌}
 use Rattle.std.proofs.Math.Logic.{∥∥₁_elim, ∥∥₁_map}
 use Rattle.std.specs.Coded.{Coded-set, coded_bool}
 use Rattle.ways.specs.inside.Walking.{move_judgement}
-use Rattle.ways.proofs.Walking.{FollowsTo-prop, no_move_judged, follow_reaches, follow_refused, follow_allowed}
+use Rattle.ways.proofs.Walking.{FollowsTo-prop, follow_reaches, follow_refused, follow_allowed}
 use Rattle.ways.proofs.walk.Walk.follow.Goals as goal
-use Rattle.ways.proofs.walk.Walk.follow.Goals.{then-is_ok, else-is_ok}
 
 pub invariant_of-self-in_default : goal.invariant_of-self-in_default
 invariant_of-self-in_default g c =
@@ -20,11 +19,8 @@ returns-in-Err-clause-leads g c =
     let game = (g.L.Puzzle.meaning w.level.now).game in
     let k = g.L.Notation.spelling w.level.now in
     let follows = ∥∥₁_elim w.reached (FollowsTo-prop g.row.L-Position.coded (k.outcome w.position c.args.written.now) _ _ _) c.follow-outcome.ensures in
-    let judged : move_judgement c.follow-outcome.result (game.finished w.position) ≡ c.judge_move.result = elim c.if-is_ok.branch [
-      | then-is_ok asked ↦ ap (move_judgement c.follow-outcome.result) (sym (∥∥₁_elim w.reached (Coded-set coded_bool _ _) asked.is_goal-was_finished.ensures) ∙ sym asked.was_finished-is) ∙ sym c.judge_move.ensures
-      | else-is_ok none ↦ no_move_judged c.follow-outcome.result _ _ none.if-is_ok.ensures.value ∙ sym c.judge_move.ensures
-    ] in
-    let is = judged ∙ c.in-Err.is in
+    let finished = ∥∥₁_elim w.reached (Coded-set coded_bool _ _) c.is_goal.ensures in
+    let is = ap (move_judgement c.follow-outcome.result) (sym finished) ∙ sym c.judge_move.ensures ∙ c.in-Err.is in
     rw c.at.ensures (follow_refused game k w.position _ c.args.line c.args.written.now _ follows c.in-Err.fault is)
 
 pub returns-clause-leads : goal.returns-clause-leads
@@ -33,9 +29,6 @@ returns-clause-leads g c =
     let game = (g.L.Puzzle.meaning w.level.now).game in
     let k = g.L.Notation.spelling w.level.now in
     let follows = ∥∥₁_elim w.reached (FollowsTo-prop g.row.L-Position.coded (k.outcome w.position c.args.written.now) _ _ _) c.follow-outcome.ensures in
-    let judged : move_judgement c.follow-outcome.result (game.finished w.position) ≡ c.judge_move.result = elim c.if-is_ok.branch [
-      | then-is_ok asked ↦ ap (move_judgement c.follow-outcome.result) (sym (∥∥₁_elim w.reached (Coded-set coded_bool _ _) asked.is_goal-was_finished.ensures) ∙ sym asked.was_finished-is) ∙ sym c.judge_move.ensures
-      | else-is_ok none ↦ no_move_judged c.follow-outcome.result _ _ none.if-is_ok.ensures.value ∙ sym c.judge_move.ensures
-    ] in
-    let is = judged ∙ c.in_default.is in
+    let finished = ∥∥₁_elim w.reached (Coded-set coded_bool _ _) c.is_goal.ensures in
+    let is = ap (move_judgement c.follow-outcome.result) (sym finished) ∙ sym c.judge_move.ensures ∙ c.in_default.is in
     follow_allowed game k w.position _ c.args.line c.args.written.now _ follows c.in_default.field-0 is
