@@ -3,7 +3,7 @@ use answers::{Workspace, answer_stream};
 use judgement::judge_streams;
 use std::io;
 use std::io::{ErrorKind, Read, Write};
-use streams::{Failure, Named};
+use streams::{Failure, Named, Renamed};
 
 const LEVEL: &str = "(atomix 3 2\n(row A..)\n(row #.B)\n(want A)\n(want B)\n)\n";
 
@@ -182,6 +182,22 @@ fn judges_over_streams(rt: HostRuntime) {
         let mut output = output_of(&rt, room, flushes);
         let level = dribbled(LEVEL_NAME, LEVEL, LEVEL.len(), level_fails);
         let way = dribbled(WAY_NAME, WAY, WAY.len(), way_fails);
+        let outcome = judge_streams(rt.alloc(), level, way, &mut output);
+        assert_eq!(rt; failed(outcome), due);
+        assert!(rt; output.stream.taken.as_slice() == written.as_bytes());
+    }
+}
+
+#[test]
+fn judges_under_other_names(rt: HostRuntime) {
+    let rows = [(false, None, ACCEPTED), (true, Some("-"), "")];
+    for (fails, due, written) in rows {
+        let mut output = output_of(&rt, ACCEPTED.len(), true);
+        let level = Renamed {
+            name: "-",
+            source: dribbled(LEVEL_NAME, LEVEL, LEVEL.len(), fails),
+        };
+        let way = dribbled(WAY_NAME, WAY, WAY.len(), false);
         let outcome = judge_streams(rt.alloc(), level, way, &mut output);
         assert_eq!(rt; failed(outcome), due);
         assert!(rt; output.stream.taken.as_slice() == written.as_bytes());

@@ -1,21 +1,34 @@
 //! `judge LEVEL WAY` judges a written way for a level and prints `(accepted N)` or `(fault NUMBER LINE)`.
 //!
 //! LEVEL and WAY are paths, or `-` for standard input. A refusal is an ordinary answer, with status 0. Only a file or
-//! a stream that fails, want of memory, or a wrong call ends with status 1, and standard error says why.
+//! a stream that fails, want of memory, or a wrong call ends with status 1, and standard error says why, last by the
+//! line of the runtime's for a `main` that ends with an error.
 #![tactic(auto)]
 
 use judgement::judge_streams;
+use std::io::ErrorKind;
 use std::process::ExitCode;
-use streams::{Failure, PathSource, arguments, end, end_with_usage, standard_output};
+use streams::{
+    Failure, PathSource, Renamed, arguments, end_in_full, end_with_error, end_with_usage,
+    standard_output,
+};
 
 /// The program's name, under which it says what failed.
 const NAME: &str = "judge";
 
+/// The source that a path names, whose failures give the path as it was called, `-` too.
+fn called<'a>(rt: &HostRuntime, path: &'a str) -> Renamed<'a, PathSource<'a>> {
+    Renamed {
+        name: path,
+        source: PathSource::new(rt, path),
+    }
+}
+
 fn judge_paths<'a>(rt: &HostRuntime, level: &'a str, way: &'a str) -> Result<(), Failure<'a>> {
     judge_streams(
         rt.alloc(),
-        PathSource::new(rt, level),
-        PathSource::new(rt, way),
+        called(rt, level),
+        called(rt, way),
         &mut standard_output(rt),
     )
 }
@@ -23,11 +36,12 @@ fn judge_paths<'a>(rt: &HostRuntime, level: &'a str, way: &'a str) -> Result<(),
 fn main(rt: HostRuntime) -> ExitCode {
     let mut args = match arguments(&rt) {
         Ok(args) => args.skip(1),
-        Err(failure) => return end(&rt, NAME, Err(failure)),
+        Err(failure) => return end_with_error(&rt, &failure.error),
     };
     let (Some(level), Some(way), None) = (args.next(), args.next(), args.next()) else {
-        return end_with_usage(&rt, "judge LEVEL WAY");
+        end_with_usage(&rt, "judge LEVEL WAY");
+        return end_with_error(&rt, &ErrorKind::InvalidInput.into());
     };
     let outcome = judge_paths(&rt, &level, &way);
-    end(&rt, NAME, outcome)
+    end_in_full(&rt, NAME, outcome)
 }

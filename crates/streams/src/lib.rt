@@ -171,6 +171,29 @@ impl<'a> Source<'a> for PathSource<'a> {
     }
 }
 
+/// A source whose failures, and those of its stream, give another name.
+#[derive(Drop)]
+pub struct Renamed<'a, S> {
+    pub name: &'a str,
+    pub source: S,
+}
+
+impl<'a, S: Source<'a>> Source<'a> for Renamed<'a, S> {
+    type Stream = S::Stream;
+
+    ghost name = { λ renamed. renamed.name.now };
+
+    ghost given = { λ renamed. S.given renamed.source };
+
+    fn open(self) -> Result<Named<'a, S::Stream>, Failure<'a>> {
+        let Renamed { name, source } = self;
+        match source.open() {
+            Ok(Named { stream, .. }) => Ok(Named { name, stream }),
+            Err(Failure { error, .. }) => Err(Failure { name, error }),
+        }
+    }
+}
+
 /// All bytes of a source, from its opening to its end, after which it is let go.
 pub fn read_source<'a, S: Source<'a>>(heap: Global, source: S) -> Result<Vec<u8>, Failure<'a>>
     ensures all { IfOk result (λ bytes. IfSome (S.given source) (λ given. bytes.items ≡ given)) }
@@ -215,6 +238,15 @@ pub fn end_with_usage(rt: &HostRuntime, usage: &str) -> ExitCode
     ExitCode::FAILURE
 }
 
+/// How a program ends with an error, as the runtime does where `main` ends with it: with status 1, and standard error
+/// has the error in full.
+pub fn end_with_error(rt: &HostRuntime, error: &io::Error) -> ExitCode
+    ensures { exit_status result ≡ 1 }
+{
+    let _ = eprintln!(rt; "Error: {error:?}");
+    ExitCode::FAILURE
+}
+
 /// How a program of that name ends: with status 0, or with status 1 where standard error says what failed.
 pub fn end(rt: &HostRuntime, program: &str, outcome: Result<(), Failure>) -> ExitCode
     ensures { MatchResult outcome.entry (λ _. exit_status result ≡ 0) (λ _. exit_status result ≡ 1) }
@@ -226,4 +258,15 @@ pub fn end(rt: &HostRuntime, program: &str, outcome: Result<(), Failure>) -> Exi
             ExitCode::FAILURE
         }
     }
+}
+
+/// How a program of that name ends: as by `end`, with the error of a failure once more in full.
+pub fn end_in_full(rt: &HostRuntime, program: &str, outcome: Result<(), Failure>) -> ExitCode
+    ensures { MatchResult outcome.entry (λ _. exit_status result ≡ 0) (λ _. exit_status result ≡ 1) }
+{
+    let Err(failure) = outcome else {
+        return ExitCode::SUCCESS;
+    };
+    let _ = eprintln!(rt; "{program}: {failure}");
+    end_with_error(rt, &failure.error)
 }
