@@ -9,8 +9,7 @@ use judgement::judge_streams;
 use std::io::ErrorKind;
 use std::process::ExitCode;
 use streams::{
-    Failure, PathSource, Renamed, arguments, end_in_full, end_with_error, end_with_usage,
-    standard_output,
+    Failure, PathSource, Renamed, arguments, end_in_full, end_with_error, standard_output,
 };
 
 /// The program's name, under which it says what failed.
@@ -39,8 +38,8 @@ fn main(rt: HostRuntime) -> ExitCode {
         Err(failure) => return end_with_error(&rt, &failure.error),
     };
     let (Some(level), Some(way), None) = (args.next(), args.next(), args.next()) else {
-        end_with_usage(&rt, "judge LEVEL WAY");
-        return end_with_error(&rt, &ErrorKind::InvalidInput.into());
+        let said = eprintln!(rt; "usage: judge LEVEL WAY");
+        return end_with_error(&rt, &said.err().unwrap_or(ErrorKind::InvalidInput.into()));
     };
     let outcome = judge_paths(&rt, &level, &way);
     end_in_full(&rt, NAME, outcome)

@@ -260,13 +260,14 @@ pub fn end(rt: &HostRuntime, program: &str, outcome: Result<(), Failure>) -> Exi
     }
 }
 
-/// How a program of that name ends: as by `end`, with the error of a failure once more in full.
+/// How a program of that name ends: as by `end`, with the error of a failure once more in full; or with the error of
+/// standard error, where it does not take the first line.
 pub fn end_in_full(rt: &HostRuntime, program: &str, outcome: Result<(), Failure>) -> ExitCode
     ensures { MatchResult outcome.entry (λ _. exit_status result ≡ 0) (λ _. exit_status result ≡ 1) }
 {
     let Err(failure) = outcome else {
         return ExitCode::SUCCESS;
     };
-    let _ = eprintln!(rt; "{program}: {failure}");
-    end_with_error(rt, &failure.error)
+    let said = eprintln!(rt; "{program}: {failure}");
+    end_with_error(rt, &said.err().unwrap_or(failure.error))
 }
