@@ -1,8 +1,8 @@
 //! `judge LEVEL WAY` judges a written way for a level and prints `(accepted N)` or `(fault NUMBER LINE)`.
 //!
 //! LEVEL and WAY are paths, or `-` for standard input. A refusal is an ordinary answer, with status 0. Only a file or
-//! a stream that fails, want of memory, or a wrong call ends with status 1, and standard error says why, last by the
-//! line of the runtime's for a `main` that ends with an error.
+//! a stream that fails, want of memory, or a wrong call ends with status 1, and standard error says why; its last
+//! line is the one that the runtime writes where `main` ends with an error.
 #![tactic(auto)]
 
 use judgement::judge_streams;
